@@ -1,0 +1,3 @@
+pub mod Hamming
+pub mod Parity
+pub mod Laws

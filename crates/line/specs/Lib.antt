@@ -1,0 +1,5 @@
+pub mod Size
+pub mod Line
+pub mod Reading
+pub mod Damage
+pub mod Laws

@@ -1,0 +1,67 @@
+-- What the entries' contracts say, from the parts. Assumes nothing.
+use mathlib.Core.Path.{_≡_, refl, sym, _∙_, ap, subst}
+use mathlib.Core.Logic.{_⊎_, inl, inr, ⊎-elim}
+use mathlib.Core.Bool.{Bool, true, false, _&&_}
+use mathlib.Core.List.{List, [], _∷_, _++_}
+use Prim.Native.Nat.{ℕ, _+_, _*_, _≤_, _<_}
+use native.Mathlib.Omega.{arith}
+use lib.Dec.{ltb}
+use lib.ListN.{length, getD}
+use Rattle.std.proofs.shelf.Tests.{and-parts, and-from, lt-ltb, ltb-true, cases-bool, cases-eq}
+use Rattle.store.specs.Layout.{slots, version-at, letter-at, holds, well-formed, page-in, First-fault}
+use Rattle.store.specs.Slots.{has-row, Row-of}
+use Rattle.store.proofs.Faults.{faulty}
+use Rattle.store.proofs.Pages.{page-held, page-there, there-slot, slot-letter}
+use Rattle.receiver.specs.Entry.{refusal, Answers}
+use Rattle.receiver.specs.Broadcast.{Sent-letter}
+use Rattle.receiver.specs.Runs.{Run, Sound, Shows-text}
+use Rattle.receiver.specs.Promises.{Run-promises, Continues, Row-sound, Row-text}
+use Rattle.receiver.specs.declared.entry.Done.{Done}
+use Rattle.receiver.proofs.Steps.{refused-line, refused-store, not-refused, formed-run, length-run, run-more}
+use Rattle.receiver.proofs.Invariant.{sound-run, soundness}
+use Rattle.receiver.proofs.Recovering.{recovery, recovery-of-page}
+
+-- all promises of a run
+run-promises : (s s₁ : List ℕ) (ls : List (List ℕ)) (rs : List Done) → well-formed s ≡ true → Run s ls rs s₁ → Run-promises s ls rs s₁
+run-promises s s₁ ls rs ok w = record {
+  run = w;
+  formed = formed-run s s₁ ls rs ok w;
+  long = length-run s s₁ ls rs ok w;
+  stays-sound = λ sent come h. sound-run sent s s₁ ls rs ok come w h;
+  soundness = soundness s s₁ ls rs ok w;
+  recovery = recovery s s₁ ls rs ok w;
+  recovery-of-page = recovery-of-page s s₁ ls rs ok w;
+}
+
+pub continues : (l s : List ℕ) (r : Done) (s₁ : List ℕ) → Answers l s r s₁ → Continues l s r s₁
+continues l s r s₁ a s₀ ls rs ok w = run-promises s₀ s₁ (ls ++ (l ∷ [])) (rs ++ (r ∷ [])) ok (run-more s₀ s s₁ l r ls rs w a)
+
+-- a row's letter is its slot's
+row-letter : (s : List ℕ) (n r i c : ℕ) (t : List ℕ) → Row-of s n r t → has-row s n r ≡ true → well-formed s ≡ true → r < 25 → c < 40 → i < slots s → holds s n i ≡ true → getD t c 0 ≡ letter-at s i r c
+row-letter s n r i c t w e ok hr hc hi held = w .letters e c hc ∙ ap (λ p. p .letters r c) (page-held s n i ok hi held) ∙ slot-letter s i r c hr hc
+
+pub row-sound : (s : List ℕ) (n r : ℕ) (t : List ℕ) → Row-of s n r t → Row-sound s n r t
+row-sound s n r t w sent h =
+    ⊎-elim
+    (λ e. let a = and-parts (well-formed s) (page-in s n .there && ltb r 25) e in
+    let b = and-parts (page-in s n .there) (ltb r 25) (a .1) in
+    let hr : r < 25 = ltb-true _ _ (b .1) in
+    let i = there-slot s n (b .0) in
+    inr (
+      i .0,
+      i .1,
+      i .2,
+      w .long e,
+      λ c hc.
+          let x : getD t c 0 ≡ letter-at s (i .0) r c = row-letter s n r (i .0) c t w e (a .0) hr hc (i .1) (i .2) in
+          ⊎-elim (λ z. inl (x ∙ z)) (λ known. inr (subst (λ y. Sent-letter sent n (version-at s (i .0)) r c y) (sym x) (h (i .0) n (i .1) (i .2) .letters r c hr hc known))) (zero-or (letter-at s (i .0) r c)),
+    ))
+    (λ e. inl (w .nothing e)) (cases-bool (has-row s n r))
+  where
+    zero-or : (x : ℕ) → (x ≡ 0) ⊎ (0 < x)
+    zero-or x = ⊎-elim (λ e. inl e) (λ ne. inr (omega arith)) (cases-eq x 0)
+
+pub row-text : (s : List ℕ) (n r : ℕ) (t : List ℕ) → Row-of s n r t → Row-text s n r t
+row-text s n r t w sent v places ok hr sh =
+    let e : has-row s n r ≡ true = and-from _ _ ok (and-from _ _ (page-there s n (sh .slot) ok (sh .within) (sh .here)) (lt-ltb _ _ hr)) in
+    (w .long e, λ c hc p m i pg known. row-letter s n r (sh .slot) c t w e ok hr hc (sh .within) (sh .here) ∙ sym (sh .text r c p m i pg known))

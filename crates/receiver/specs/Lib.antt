@@ -1,0 +1,4 @@
+pub mod Entry
+pub mod Broadcast
+pub mod Runs
+pub mod Promises

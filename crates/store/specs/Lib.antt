@@ -1,0 +1,4 @@
+pub mod Page
+pub mod Layout
+pub mod Slots
+pub mod Writes

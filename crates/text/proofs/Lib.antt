@@ -1,0 +1,4 @@
+pub mod HexReading
+pub mod HexRoundTrip
+pub mod HexWriting
+pub mod ScreenSigns
