@@ -33,3 +33,7 @@ Number-limit-sharp = (n b : ℕ) → n < 16 → b < 256 → distance (encode-num
 abbrev pub Letter-limit-sharp : Type 0
 Letter-limit-sharp =
     (c : ℕ) → is-letter c ≡ true → (b : ℕ) × (b < 256) × (distance (encode-letter c) b ≡ 2) × (is-letter (decode-letter b) ≡ true) × (decode-letter b ≡ c → ⊥)
+
+-- bytes to try: a code word, one with a bit turned, one with two
+abbrev pub Examples : Type 0
+Examples = (decode-number 21 ≡ 0) × (decode-number 20 ≡ 0) × (decode-number 22 ≡ 16)

@@ -3,3 +3,5 @@ pub mod hamming;
 pub mod laws;
 pub mod parity;
 mod tables;
+#[cfg(test)]
+mod tests;

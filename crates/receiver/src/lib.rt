@@ -10,3 +10,6 @@ pub use entry::refusal_place;
 pub use entry::take_line;
 pub use laws::order_laws;
 pub use rows::row;
+
+#[cfg(test)]
+mod tests;
