@@ -22,7 +22,7 @@ use Rattle.receiver.specs.declared.entry.Done.{Done}
 use Rattle.receiver.proofs.Steps.{Step, useless, no-room, applied, stepped, still-formed}
 
 -- pages that show the same go on to, whatever is applied
-shows-in-version : (p q : Page) (v : ℕ) → Shows-same p q → Shows-same (in-version p v) (in-version q v)
+pub shows-in-version : (p q : Page) (v : ℕ) → Shows-same p q → Shows-same (in-version p v) (in-version q v)
 unfolding in-version
 shows-in-version p q v a =
     let same : (p .there && eqb (p .version) v) ≡ (q .there && eqb (q .version) v) = ap (λ b. b && eqb (p .version) v) (a .there) ∙ ap (λ x. q .there && eqb x v) (a .version) in

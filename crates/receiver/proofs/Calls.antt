@@ -5,17 +5,18 @@ use mathlib.Core.Bool.{Bool, true, false, _&&_}
 use mathlib.Core.List.{List, [], _∷_, _++_}
 use Prim.Native.Nat.{ℕ, _+_, _*_, _≤_, _<_}
 use native.Mathlib.Omega.{arith}
-use lib.Dec.{ltb}
+use lib.Dec.{ltb, eqb}
 use lib.ListN.{length, getD}
-use Rattle.std.proofs.shelf.Tests.{and-parts, and-from, lt-ltb, ltb-true, cases-bool, cases-eq}
+use Rattle.std.proofs.shelf.Lists.{getD-past}
+use Rattle.std.proofs.shelf.Tests.{and-parts, and-from, lt-ltb, ltb-true, eq-eqb, eqb-true, cases-bool, cases-eq, cases-lt}
 use Rattle.store.specs.Layout.{slots, version-at, letter-at, holds, well-formed, page-in, First-fault}
 use Rattle.store.specs.Slots.{has-row, Row-of}
 use Rattle.store.proofs.Faults.{faulty}
 use Rattle.store.proofs.Pages.{page-held, page-there, there-slot, slot-letter}
 use Rattle.receiver.specs.Entry.{refusal, Answers}
-use Rattle.receiver.specs.Broadcast.{Sent-letter}
+use Rattle.receiver.specs.Broadcast.{Sent-letter, Brought}
 use Rattle.receiver.specs.Runs.{Run, Sound, Shows-text}
-use Rattle.receiver.specs.Promises.{Run-promises, Continues, Row-sound, Row-text}
+use Rattle.receiver.specs.Promises.{Run-promises, Continues, Row-sound, Row-text, Row-of-run}
 use Rattle.receiver.specs.declared.entry.Done.{Done}
 use Rattle.receiver.proofs.Steps.{refused-line, refused-store, not-refused, formed-run, length-run, run-more}
 use Rattle.receiver.proofs.Invariant.{sound-run, soundness}
@@ -65,3 +66,22 @@ pub row-text : (s : List ℕ) (n r : ℕ) (t : List ℕ) → Row-of s n r t → 
 row-text s n r t w sent v places ok hr sh =
     let e : has-row s n r ≡ true = and-from _ _ ok (and-from _ _ (page-there s n (sh .slot) ok (sh .within) (sh .here)) (lt-ltb _ _ hr)) in
     (w .long e, λ c hc p m i pg known. row-letter s n r (sh .slot) c t w e ok hr hc (sh .within) (sh .here) ∙ sym (sh .text r c p m i pg known))
+
+-- past a row's end there is no letter
+known-within : (t : List ℕ) (c n : ℕ) → length t ≡ n → 0 < getD t c 0 → c < n
+known-within t c n long known = ⊎-elim (λ lt. lt) (λ ge. absurd (omega (arith, known, getD-past t c 0 (subst (λ k. k ≤ c) (sym long) ge)))) (cases-lt c n)
+
+pub row-of-run : (s : List ℕ) (n r : ℕ) (t : List ℕ) → Row-of s n r t → Row-of-run s n r t
+row-of-run s n r t w s₀ ls rs sent ok run come one = record {
+  only-sent = λ none c known.
+      ⊎-elim (λ empty. absurd (omega (arith, known-within t c 0 empty known)))
+      (λ x. let hc = known-within t c 40 (x .3) known in ⊎-elim (λ z. absurd (omega (arith, z, known))) (λ y. (version-at s (x .0), y)) (x .4 c hc))
+      (row-sound s n r t w sent (soundness s₀ s ls rs ok run sent come one none .0));
+  brought = λ v ver c b.
+      let places : ℕ → ℕ → Bool = λ i j. eqb i r && eqb j c in
+      let here : places r c ≡ true = and-from _ _ (eq-eqb r r refl) (eq-eqb c c refl) in
+      let hr : r < 25 = subst (λ k. k < 25) (b .brings .row) (b .brings .copy .valid .row) in
+      ⊎-elim (λ sh. let x = row-text s n r t w sent v places (formed-run s₀ s ls rs ok run) hr sh in inr (x .0, λ m i pg known. x .1 c (b .brings .column) here m i pg known)) (λ full. inl full)
+      (recovery s₀ s ls rs ok run sent n v places come one ver
+      (λ i j p. let e = and-parts (eqb i r) (eqb j c) p in subst (λ y. Brought sent ls n y j) (sym (eqb-true _ _ (e .0))) (subst (λ y. Brought sent ls n r y) (sym (eqb-true _ _ (e .1))) b)) r c here);
+}

@@ -33,7 +33,7 @@ slot-page-sound sent s i n w = record {
       (λ _ known. absurd (omega arith));
 }
 
-pages-sound : (sent : List Line) (s : List ℕ) → well-formed s ≡ true → Sound sent s → (n : ℕ) → Sound-page sent n (page-in s n)
+pub pages-sound : (sent : List Line) (s : List ℕ) → well-formed s ≡ true → Sound sent s → (n : ℕ) → Sound-page sent n (page-in s n)
 pages-sound sent s ok h n =
     ⊎-elim (λ w. subst (Sound-page sent n) (sym (page-held s n (w .0) ok (w .1) (w .2))) (slot-page-sound sent s (w .0) n (h (w .0) n (w .1) (w .2))))
     (λ f. subst (Sound-page sent n) (sym (page-absent s n f)) (no-page-sound sent n)) (slot-cases s n)
@@ -49,7 +49,7 @@ slot-sound sent s i n q ok h e a w =
           subst (λ y. Sent-letter sent n (version-at s i) r c y) x (subst (λ y. Sent-letter sent n y r c (q .letters r c)) v (w .letters r c (subst (λ y. 0 < y) (sym x) known)));
     }
 
-sound-step : (sent : List Line) (l s s₁ : List ℕ) → well-formed s ≡ true → (length l ≡ 46 → ⊥) ⊎ Copy-of-sent sent l → Step l s s₁ → Sound sent s → Sound sent s₁
+pub sound-step : (sent : List Line) (l s s₁ : List ℕ) → well-formed s ≡ true → (length l ≡ 46 → ⊥) ⊎ Copy-of-sent sent l → Step l s s₁ → Sound sent s → Sound sent s₁
 sound-step sent l s s₁ ok come (useless g e) h = subst (Sound sent) (sym e) h
 sound-step sent l s s₁ ok come (no-room g w e) h = subst (Sound sent) (sym e) h
 sound-step sent l s s₁ ok come (applied g w) h = λ i n hi e.

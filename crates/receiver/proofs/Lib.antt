@@ -4,4 +4,7 @@ pub mod Invariant
 pub mod Recovering
 pub mod Bytes
 pub mod Orders
+pub mod Dependence
+pub mod OnePage
+pub mod Copied
 pub mod Calls

@@ -71,7 +71,7 @@ comes-keep sent ls n v r c m come one ver among pg known l i g page =
       λ there. part .letters r c there ∙ one (a .line) m (a .among) among (same ∙ sym pg) (av ∙ sym (ver m among pg)) r c (subst (λ y. 0 < y) (part .letters r c there) there) known,
     )
 
-no-place : (n : ℕ) (s s₁ : List ℕ) (ls : List (List ℕ)) (rs : List Done) → well-formed s ≡ true → Run s ls rs s₁ → No-room s₁ n → No-place s s₁ n
+pub no-place : (n : ℕ) (s s₁ : List ℕ) (ls : List (List ℕ)) (rs : List Done) → well-formed s ≡ true → Run s ls rs s₁ → No-room s₁ n → No-place s s₁ n
 no-place n s s₁ ls rs ok w h = record {
   before = λ i hi. ⊎-elim (λ e. absurd (both-ways _ (h .absent i (subst (λ k. i < k) (sym (same-slots s s₁ (length-run s s₁ ls rs ok w))) hi)) (held-run n i s s₁ ls rs ok w e))) (λ e. e) (cases-bool (holds s n i));
   after = h;

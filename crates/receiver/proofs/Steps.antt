@@ -45,12 +45,16 @@ pub data Step (l s s₁ : List ℕ) : Type 0 where
   no-room : readable l ≡ true → No-room s (page-of l) → s₁ ≡ s → Step l s s₁
   applied : readable l ≡ true → Applied (fragment l) s s₁ → Step l s s₁
 
+-- a line that a well-formed store turns away isn't 46 bytes long
+pub refused-useless : (l s s₁ : List ℕ) (f : ℕ) → well-formed s ≡ true → Answers l s (Refused f) s₁ → (readable l ≡ false) × (s₁ ≡ s)
+refused-useless l s s₁ f ok a =
+    (⊎-elim (λ e. absurd (omega (arith, not-refused l s e ok, a .says .refused))) (λ ne. unreadable l (λ w. ne (w .long))) (cases-eq (length l) 46), a .says .same)
+
 pub stepped : (l s s₁ : List ℕ) (r : Done) → well-formed s ≡ true → Answers l s r s₁ → Step l s s₁
 stepped l s s₁ Took ok a = applied (a .says .readable) (a .says .applied)
 stepped l s s₁ Lost ok a = useless (a .says .unreadable) (a .says .same)
 stepped l s s₁ Full ok a = no-room (a .says .readable) (a .says .no-room) (a .says .same)
-stepped l s s₁ (Refused f) ok a =
-    ⊎-elim (λ e. absurd (omega (arith, not-refused l s e ok, a .says .refused))) (λ ne. useless (unreadable l (λ w. ne (w .long))) (a .says .same)) (cases-eq (length l) 46)
+stepped l s s₁ (Refused f) ok a = let w = refused-useless l s s₁ f ok a in useless (w .0) (w .1)
 
 pub still-formed : {l s s₁ : List ℕ} → Step l s s₁ → well-formed s ≡ true → well-formed s₁ ≡ true
 still-formed (useless g e) ok = ap well-formed e ∙ ok
