@@ -15,7 +15,8 @@ use Rattle.std.specs.Options.{mapped}
 use Rattle.std.proofs.shelf.Counted.{getD-map-counting}
 use Rattle.std.proofs.shelf.Lists.{length-take, drop-more, drop-all, getD-past}
 use Rattle.std.proofs.shelf.Tests.{eq-eqb, ne-eqb, cond-true, cond-false, cond-both, and-left, and-right, and-from, lt-ltb, le-ltb, cases-lt}
-use Rattle.text.specs.Hex.{blank, carriage-return, between, digit-value, byte-of, in-front, hex-bytes, without-return}
+use Rattle.text.specs.Hex.{blank, between, digit-value, byte-of, in-front, hex-bytes}
+use Rattle.text.specs.Lines.{without-return}
 
 -- the values of all bytes as digits
 unfoldable pub table : List ℕ
@@ -115,11 +116,11 @@ no-byte high low h l eh el way =
     sym (cond-false _ _ _ fails)
 
 -- a line with a carriage return at its end, and one with none
-pub trimmed : (t : List ℕ) → getD t (length t - 1) 0 ≡ carriage-return → take (length t - 1) t ≡ without-return t
+pub trimmed : (t : List ℕ) → getD t (length t - 1) 0 ≡ 13 → take (length t - 1) t ≡ without-return t
 unfolding without-return
 trimmed t e = sym (cond-true _ _ _ (eq-eqb _ _ e))
 
-pub untrimmed : (t : List ℕ) → (getD t (length t - 1) 0 ≡ carriage-return → ⊥) → t ≡ without-return t
+pub untrimmed : (t : List ℕ) → (getD t (length t - 1) 0 ≡ 13 → ⊥) → t ≡ without-return t
 unfolding without-return
 untrimmed t ne = sym (cond-false _ _ _ (ne-eqb _ _ ne))
 
@@ -131,4 +132,4 @@ unfolding without-return
 trimmed-short t =
     let cut : length (take (length t - 1) t) ≤ length t = simp length-take (omega arith) in
     let whole : length t ≤ length t = omega arith in
-    cond-both (eqb (getD t (length t - 1) 0) carriage-return) (take (length t - 1) t) t (λ l. length l ≤ length t) (λ _. cut) (λ _. whole)
+    cond-both (eqb (getD t (length t - 1) 0) 13) (take (length t - 1) t) t (λ l. length l ≤ length t) (λ _. cut) (λ _. whole)

@@ -11,7 +11,8 @@ use lib.ListN.{length, getD}
 use Rattle.std.specs.declared.option.Option.{Option}
 use Rattle.std.specs.declared.option.Option.the-variants.{Some, None}
 use Rattle.std.proofs.shelf.Tests.{and-parts, eqb-true, cond-both}
-use Rattle.text.specs.Hex.{blank, carriage-return, between, digit-value, byte-of, in-front, hex-bytes, without-return, line-bytes, digit-of, hex-byte, hex-text, Bytes, Written-is-read}
+use Rattle.text.specs.Hex.{blank, between, digit-value, byte-of, in-front, hex-bytes, line-bytes, digit-of, hex-byte, hex-text, Bytes, Written-is-read}
+use Rattle.text.specs.Lines.{without-return}
 use Rattle.text.proofs.HexReading.{front-blank, front-byte, is-byte, untrimmed}
 
 -- the test f passes at each number below n
@@ -57,9 +58,9 @@ text-back (b ∷ c ∷ bs) h =
 
 -- no carriage return is written
 abbrev No-return : List ℕ → Type 0
-No-return t = (k : ℕ) → getD t k 0 ≡ carriage-return → ⊥
+No-return t = (k : ℕ) → getD t k 0 ≡ 13 → ⊥
 
-no-return-cons : (c : ℕ) (t : List ℕ) → (c ≡ carriage-return → ⊥) → No-return t → No-return (c ∷ t)
+no-return-cons : (c : ℕ) (t : List ℕ) → (c ≡ 13 → ⊥) → No-return t → No-return (c ∷ t)
 no-return-cons c t ne rest zero e = ne e
 no-return-cons c t ne rest (suc k) e = rest k e
 

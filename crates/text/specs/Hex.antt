@@ -8,14 +8,11 @@ use lib.ListN.{length, getD, take}
 use Rattle.std.specs.declared.option.Option.{Option}
 use Rattle.std.specs.declared.option.Option.the-variants.{Some, None}
 use Rattle.std.specs.Options.{mapped}
+use Rattle.text.specs.Lines.{without-return}
 
 -- the code of the blank that may stand before, between and after bytes
 abbrev pub blank : ℕ
 blank = 32
-
--- the code of the carriage return that may end a line
-abbrev pub carriage-return : ℕ
-carriage-return = 13
 
 -- whether a code lies between two others, both included
 unfoldable pub between : ℕ → ℕ → ℕ → Bool
@@ -40,10 +37,6 @@ unfoldable pub hex-bytes : List ℕ → Option (List ℕ)
 hex-bytes [] = Some []
 hex-bytes (c ∷ []) = cond (eqb c blank) (Some []) None
 hex-bytes (c ∷ d ∷ text) = cond (eqb c blank) (hex-bytes (d ∷ text)) (in-front (byte-of c d) (hex-bytes text))
-
--- a line without the carriage return at its end, if there is one
-unfoldable pub without-return : List ℕ → List ℕ
-without-return line = cond (eqb (getD line (length line - 1) 0) carriage-return) (take (length line - 1) line) line
 
 -- the bytes that a line spells; none if it isn't bytes in hex
 unfoldable pub line-bytes : List ℕ → Option (List ℕ)

@@ -9,17 +9,17 @@ ghost use Rattle.std.specs.Of.Vec.{vec-items, vec-len, vec-cap};
 ghost use Rattle.std.specs.Options.{isSome, valueOr};
 ghost use Rattle.std.specs.Results.{isOk};
 ghost use Rattle.std.specs.Vec.{made};
-ghost use Rattle.text.specs.Hex.{digit-value, byte-of, hex-bytes, without-return, line-bytes, digit-of, hex-byte, hex-text, Written-is-read};
+ghost use Rattle.text.specs.Hex.{digit-value, byte-of, hex-bytes, line-bytes, digit-of, hex-byte, hex-text, Written-is-read};
 use std::alloc::AllocError;
 
 mod digits;
 
+use crate::lines::trim_return;
 use crate::room;
 use digits::DIGITS;
 
 const BLANK: u8 = b' ';
 
-const CARRIAGE_RETURN: u8 = b'\r';
 // Values from here on are no digit's.
 const RADIX: u8 = 16;
 // The most characters that a byte is written as: two digits and a blank.
@@ -37,16 +37,6 @@ pub fn read_hex(text: &[u8], bytes: &mut Vec<u8>) -> Result<bool, AllocError>
     let line = trim_return(text);
     bytes.reserve(line.len() / 2)?;
     Ok(fill(line, bytes))
-}
-
-// The line without the carriage return at its end.
-fn trim_return(line: &[u8]) -> &[u8]
-    ensures { λ r. ⌜ now r ≡ without-return (now (line .entry)) ⌝ }
-{
-    match line {
-        [front @ .., CARRIAGE_RETURN] => front,
-        _ => line,
-    }
 }
 
 // Puts the bytes that a line spells into `bytes`, which is empty and has room; false, and no bytes, where it spells none.

@@ -1,4 +1,6 @@
-// Text that people and programs read and write: lines in hex, and rows as they are shown.
+// Text that people and programs read and write: page texts, lines in hex, and rows as they are shown.
 pub mod hex;
+mod lines;
+pub mod page_text;
 mod room;
 pub mod screen;
