@@ -3,6 +3,7 @@ pub mod HexRoundTrip
 pub mod HexWriting
 pub mod ScreenSigns
 pub mod DecimalDigits
+pub mod PageLinesValid
 pub mod PageTextFirst
 pub mod PageTextItems
 pub mod PageTextLines

@@ -4,4 +4,5 @@ pub mod Screen
 pub mod PageText
 pub mod PageTextCode
 pub mod PageTextLaws
+pub mod PageLines
 pub mod PageTextWritten

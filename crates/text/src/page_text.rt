@@ -6,6 +6,7 @@ use std::alloc::Refused;
 
 mod items;
 mod reading;
+mod sending;
 #[cfg(test)]
 mod tests;
 mod words;

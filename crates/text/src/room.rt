@@ -9,7 +9,7 @@ ghost use Rattle.std.specs.Results.{Cases as ByOk};
 use std::alloc::AllocError;
 
 // Asks for room for `count` characters of at most `width` bytes each. The text stays as it is.
-pub fn reserve(text: &mut String, count: usize, width: usize) -> Result<(), AllocError>
+pub(crate) fn reserve(text: &mut String, count: usize, width: usize) -> Result<(), AllocError>
     ensures bytes { λ _. ⌜ string-bytes (now (text .exit)) ≡ string-bytes (now (text .entry)) ⌝ }
     ensures len { λ _. ⌜ string-len (now (text .exit)) ≡ string-len (now (text .entry)) ⌝ }
     ensures cases { λ r. ⌜ ByOk r (λ _. string-len (now (text .exit)) + count * width ≤ string-cap (now (text .exit))) (λ _. string-cap (now (text .entry)) < string-len (now (text .entry)) + count * width) ⌝ }
@@ -21,7 +21,7 @@ pub fn reserve(text: &mut String, count: usize, width: usize) -> Result<(), Allo
 }
 
 // Appends a character for which there is room.
-pub fn push(text: &mut String, sign: char)
+pub(crate) fn push(text: &mut String, sign: char)
     requires { ⌜ string-len (now text) + length (encode sign) ≤ string-cap (now text) ⌝ }
     ensures bytes { λ _. ⌜ string-bytes (now (text .exit)) ≡ string-bytes (now (text .entry)) ++ encode sign ⌝ }
     ensures len { λ _. ⌜ string-len (now (text .exit)) ≡ string-len (now (text .entry)) + length (encode sign) ⌝ }

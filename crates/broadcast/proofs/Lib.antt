@@ -1,0 +1,4 @@
+pub mod Turns
+pub mod Broadcasts
+pub mod Sent
+pub mod Screens
