@@ -1,0 +1,21 @@
+# make demo: proves and builds the programs and shows pages that were sent and received; make test: the gate.
+PREFIX ?= /usr/local
+PROGRAMS = send_pages receive_pages
+
+.PHONY: all demo test install clean
+
+all:
+	rt check $(PROGRAMS)
+
+demo: all
+	@examples/demo target/bin
+
+test:
+	.ci/run
+
+install: all
+	install -d "$(DESTDIR)$(PREFIX)/bin"
+	install $(addprefix target/bin/,$(PROGRAMS)) "$(DESTDIR)$(PREFIX)/bin"
+
+clean:
+	rm -rf target
