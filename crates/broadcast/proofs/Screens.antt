@@ -1,11 +1,10 @@
 -- What is shown of what came of a text. Assumes nothing.
-use mathlib.Core.Path.{_≡_, refl, sym, _∙_, ap, subst}
-use mathlib.Core.Logic.{_⊎_, inl, inr, ⊎-elim}
-use mathlib.Core.Bool.{Bool, true, false}
-use mathlib.Core.List.{List, [], _∷_}
-use Prim.Native.Nat.{ℕ, _+_, _*_, _<_}
+use mathlib.Core.Path.{_≡_, sym, _∙_, ap, subst}
+use mathlib.Core.Logic.{inl, inr, ⊎-elim}
+use mathlib.Core.List.{List}
+use Prim.Native.Nat.{ℕ, _*_, _<_}
 use native.Mathlib.Omega.{arith}
-use lib.ListN.{length, getD, take, drop, length-drop}
+use lib.ListN.{length, getD, drop, length-drop}
 use lib.Seq.{getD-take, getD-drop, length-take-le}
 use Rattle.std.proofs.shelf.Lists.{ext-getD}
 use Rattle.std.proofs.shelf.Tests.{cases-eq}
@@ -13,21 +12,16 @@ use Rattle.std.specs.Options.{Cases}
 use Rattle.std.specs.declared.option.Option.{Option}
 use Rattle.std.specs.declared.option.Option.the-variants.{Some, None}
 use Rattle.coding.specs.Parity.{is-letter}
-use Rattle.line.specs.Line.{meaning}
 use Rattle.line.specs.declared.Line.{Line}
 use Rattle.line.proofs.Copies.{reads-brought}
 use Rattle.store.specs.Slots.{Row-of, Version-of}
-use Rattle.receiver.specs.Broadcast.{Among, One-text, Brought}
+use Rattle.receiver.specs.Broadcast.{Among, One-text}
 use Rattle.receiver.specs.Promises.{Row-after-run}
-use Rattle.receiver.specs.declared.entry.Done.{Done}
 use Rattle.receiver.proofs.Calls.{row-of-run}
 use Rattle.receiver.proofs.Invariant.{soundness}
 use Rattle.text.specs.Screen.{gap-sign, sign-of}
-use Rattle.text.specs.PageTextLaws.{Sound}
-use Rattle.text.specs.declared.page_text.Page.{Page}
 use Rattle.text.proofs.PageTextSound.{pages-are-sound}
-use Rattle.broadcast.specs.Sending.{Line-of-text}
-use Rattle.broadcast.specs.Showing.{Came, text-letter, text-row, Shows-sent, Text-to-screen, Version-of-text}
+use Rattle.broadcast.specs.Showing.{text-letter, text-row, Text-to-screen, Version-of-text}
 use Rattle.broadcast.proofs.Broadcasts.{whole-page, one-text, one-version, sent-letter, sent-page}
 
 no-letter-gap : (x : ℕ) → x ≡ 0 → sign-of x ≡ gap-sign

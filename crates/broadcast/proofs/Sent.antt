@@ -1,5 +1,5 @@
 -- The line of a turn's page and row is a line of the text. Assumes nothing.
-use mathlib.Core.Path.{_≡_, refl, sym, _∙_, ap, subst}
+use mathlib.Core.Path.{_≡_, refl, _∙_, ap}
 use mathlib.Core.List.{List, [], _∷_}
 use Prim.Native.Nat.{ℕ, zero, suc, _<_}
 use native.Mathlib.Omega.{arith}
@@ -10,7 +10,7 @@ use Rattle.line.specs.declared.Line.{Line}
 use Rattle.receiver.specs.Broadcast.{Among, here, there}
 use Rattle.sender.specs.declared.turns.Schedule.{Schedule}
 use Rattle.sender.specs.declared.turns.Turn.{Turn}
-use Rattle.text.specs.PageLines.{page-line, Line-of}
+use Rattle.text.specs.PageLines.{Line-of}
 use Rattle.text.specs.declared.page_text.Page.{Page}
 use Rattle.broadcast.specs.Sending.{Sends}
 use Rattle.broadcast.proofs.Turns.{Turn-within}

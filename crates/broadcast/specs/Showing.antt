@@ -1,14 +1,13 @@
 -- From text to screen: what is shown of what was sent. Assumes nothing: these are definitions.
 use mathlib.Core.Path.{_≡_}
-use mathlib.Core.Bool.{Bool, true, false}
-use mathlib.Core.List.{List, [], _∷_, map}
+use mathlib.Core.Bool.{true}
+use mathlib.Core.List.{List}
 use mathlib.Core.Logic.{_⊎_}
 use Prim.Native.Nat.{ℕ, _+_, _*_, _<_}
 use lib.ListN.{length, getD, take, drop}
-use Rattle.line.specs.Size.{rows, columns}
+use Rattle.line.specs.Size.{columns}
 use Rattle.line.specs.declared.Line.{Line}
-use Rattle.store.specs.Layout.{slots, version-at, holds, well-formed}
-use Rattle.store.specs.Slots.{Row-of, Version-of}
+use Rattle.store.specs.Layout.{well-formed}
 use Rattle.receiver.specs.Broadcast.{Among, What-comes, Brought}
 use Rattle.receiver.specs.Runs.{Run, No-pages, No-place}
 use Rattle.receiver.specs.declared.entry.Done.{Done}

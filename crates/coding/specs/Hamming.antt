@@ -1,5 +1,5 @@
 -- The Hamming 8/4 code: a number from 0 to 15 is sent as one of sixteen bytes, any two of which differ in four bits at least. Assumes nothing: these are definitions.
-use mathlib.Core.Bool.{Bool, cond}
+use mathlib.Core.Bool.{cond}
 use mathlib.Core.List.{List, [], _∷_}
 use Prim.Native.Nat.{ℕ, suc, _%_}
 use lib.Bits.{bitXor}

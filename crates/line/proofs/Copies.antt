@@ -1,24 +1,24 @@
 -- What is read of a damaged copy of a line. Assumes nothing.
 use mathlib.Core.Path.{_≡_, refl, sym, ap, _∙_, subst}
-use mathlib.Core.Logic.{_⊎_, inl, inr, ⊎-elim}
-use mathlib.Core.Bool.{Bool, true, false, cond, _&&_}
+use mathlib.Core.Logic.{⊎-elim}
+use mathlib.Core.Bool.{true, cond, _&&_}
 use mathlib.Core.List.{List}
-use Prim.Native.Nat.{ℕ, _+_, _*_, _≤_, _<_}
+use Prim.Native.Nat.{ℕ, _+_, _≤_, _<_}
 use native.Mathlib.Omega.{arith}
 use lib.Dec.{ltb, eqb}
 use lib.ListN.{length, getD}
 use Rattle.std.proofs.shelf.Tests.{and-parts, and-from, lt-ltb, ltb-true, eq-eqb, eqb-true, cases-lt, cond-true, cond-false, cond-both}
-use Rattle.coding.specs.Hamming.{distance, encode-number, decode-number}
-use Rattle.coding.specs.Parity.{is-letter, encode-letter, decode-letter}
+use Rattle.coding.specs.Hamming.{distance}
+use Rattle.coding.specs.Parity.{encode-letter, decode-letter}
 use Rattle.coding.proofs.Numbers.{corrects-one, detects-two, distance-self}
 use Rattle.coding.proofs.Letters.{letter-range, reads-whole, detects-one}
-use Rattle.line.specs.Line.{Valid, header-numbers, encode-line, Fragment, letters-at, meaning}
+use Rattle.line.specs.Line.{Valid, header-numbers, encode-line, letters-at, meaning}
 use Rattle.line.specs.Reading.{number-of, pair-of, row-of, readable, letters-of, fragment}
-use Rattle.line.specs.Damage.{row-line, Within-limits, Copy, Brings}
-use Rattle.line.specs.Laws.{Part-of, Reads-part, Reads-brought, Undamaged}
+use Rattle.line.specs.Damage.{Copy, Brings}
+use Rattle.line.specs.Laws.{Part-of, Reads-brought, Undamaged}
 use Rattle.line.specs.declared.Line.{Line}
 use Rattle.line.proofs.Encoding.{word-at, letter-at, encode-length, number-small, encoded-byte, meant-at}
-use Rattle.line.proofs.Readability.{Readable, readable-parts, readable-from}
+use Rattle.line.proofs.Readability.{readable-parts, readable-from}
 
 -- page, version and row as the line has them
 pub record Same-header (m : Line) (l : List ℕ) : Type 0 where

@@ -1,17 +1,17 @@
 -- When a line can be made out. Assumes nothing.
-use mathlib.Core.Path.{_≡_, refl, sym, ap, _∙_, subst}
-use mathlib.Core.Logic.{_⊎_, inl, inr, ⊎-elim}
-use mathlib.Core.Bool.{Bool, true, false, _&&_}
+use mathlib.Core.Path.{_≡_, refl}
+use mathlib.Core.Logic.{⊎-elim}
+use mathlib.Core.Bool.{true, false, _&&_}
 use mathlib.Core.List.{List}
-use Prim.Native.Nat.{ℕ, _+_, _*_, _≤_, _<_}
+use Prim.Native.Nat.{ℕ, _<_}
 use native.Mathlib.Omega.{arith}
 use lib.Bits.{bitOr, or-lt, or-add-and, and-le-l, and-le-r}
 use lib.Dec.{ltb, eqb}
-use lib.ListN.{length, getD}
+use lib.ListN.{length}
 use Rattle.std.specs.Orderings.{Decides}
 use Rattle.std.proofs.shelf.Tests.{and-parts, and-from, lt-ltb, ltb-true, eq-eqb, eqb-true, cases-bool}
 use Rattle.std.proofs.shelf.Ways.{decides-below-and, decides-ltb}
-use Rattle.line.specs.Reading.{number-of, pair-of, page-of, row-of, all-numbers, readable}
+use Rattle.line.specs.Reading.{number-of, row-of, all-numbers, readable}
 
 all-numbers-is : (l : List ℕ) (n : ℕ) → Decides (all-numbers l n) ((k : ℕ) → k < n → number-of l k < 16)
 unfolding all-numbers

@@ -3,9 +3,9 @@ use mathlib.Core.Path.{_≡_}
 use mathlib.Core.Bool.{true}
 use mathlib.Core.List.{List}
 use Prim.Native.Nat.{ℕ, _<_}
-use lib.ListN.{length, getD}
+use lib.ListN.{getD}
 use Rattle.coding.specs.Hamming.{distance}
-use Rattle.line.specs.Line.{Valid, encode-line, Fragment, meaning}
+use Rattle.line.specs.Line.{encode-line, Fragment, meaning}
 use Rattle.line.specs.Reading.{readable, fragment}
 use Rattle.line.specs.Damage.{Copy, Brings}
 use Rattle.line.specs.declared.Line.{Line}

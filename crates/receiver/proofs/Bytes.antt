@@ -1,8 +1,8 @@
 -- The bytes that a call leaves are determined. Assumes nothing.
 use mathlib.Core.Path.{_≡_, refl, sym, _∙_, ap, subst}
-use mathlib.Core.Logic.{_⊎_, inl, inr, ⊎-elim}
-use mathlib.Core.Bool.{Bool, true, false, _&&_, cond}
-use mathlib.Core.List.{List, [], _∷_}
+use mathlib.Core.Logic.{inl, inr, ⊎-elim}
+use mathlib.Core.Bool.{true, _&&_}
+use mathlib.Core.List.{List}
 use Prim.Native.Nat.{ℕ, _+_, _*_, _-_, _≤_, _<_, _/_, _%_}
 use native.Mathlib.Omega.{arith}
 use lib.Dec.{eqb}
@@ -10,12 +10,12 @@ use lib.ListN.{length, getD}
 use Rattle.std.proofs.shelf.Lists.{ext-getD}
 use Rattle.std.proofs.shelf.Tests.{cases-eq, cases-lt, cases-bool, both-ways, cond-true, cond-false}
 use Rattle.line.specs.Line.{Fragment}
-use Rattle.line.specs.Reading.{page-of, readable, fragment}
+use Rattle.line.specs.Reading.{page-of, fragment}
 use Rattle.store.specs.Page.{Page, Pages, begun, in-version, merge, overlay, apply, Shows-same}
-use Rattle.store.specs.Layout.{slots, mark-at, number-at, version-at, letter-at, holds, well-formed, slot-page, page-in}
-use Rattle.store.specs.Slots.{Only-slot, Lowest-free, No-room, In-slot, Applied}
+use Rattle.store.specs.Layout.{slots, holds, well-formed, slot-page, page-in}
+use Rattle.store.specs.Slots.{Only-slot, No-room, In-slot, Applied}
 use Rattle.store.proofs.Formed.{holds-parts, one-slot, same-slots}
-use Rattle.store.proofs.Pages.{shows-refl, shows-sym, shows-then, shows-is, page-held, slot-letter, slot-version}
+use Rattle.store.proofs.Pages.{shows-sym, shows-then, shows-is, page-held, slot-letter, slot-version}
 use Rattle.receiver.specs.Runs.{Run, end, step}
 use Rattle.receiver.specs.Promises.{Determined}
 use Rattle.receiver.specs.declared.entry.Done.{Done}

@@ -1,24 +1,23 @@
 -- What the entries' contracts say, from the parts. Assumes nothing.
 use mathlib.Core.Path.{_≡_, refl, sym, _∙_, ap, subst}
 use mathlib.Core.Logic.{_⊎_, inl, inr, ⊎-elim}
-use mathlib.Core.Bool.{Bool, true, false, _&&_}
+use mathlib.Core.Bool.{Bool, true, _&&_}
 use mathlib.Core.List.{List, [], _∷_, _++_}
-use Prim.Native.Nat.{ℕ, _+_, _*_, _≤_, _<_}
+use Prim.Native.Nat.{ℕ, _≤_, _<_}
 use native.Mathlib.Omega.{arith}
 use lib.Dec.{ltb, eqb}
 use lib.ListN.{length, getD}
 use Rattle.std.proofs.shelf.Lists.{getD-past}
 use Rattle.std.proofs.shelf.Tests.{and-parts, and-from, lt-ltb, ltb-true, eq-eqb, eqb-true, cases-bool, cases-eq, cases-lt}
-use Rattle.store.specs.Layout.{slots, version-at, letter-at, holds, well-formed, page-in, First-fault}
+use Rattle.store.specs.Layout.{slots, version-at, letter-at, holds, well-formed, page-in}
 use Rattle.store.specs.Slots.{has-row, Row-of}
-use Rattle.store.proofs.Faults.{faulty}
 use Rattle.store.proofs.Pages.{page-held, page-there, there-slot, slot-letter}
-use Rattle.receiver.specs.Entry.{refusal, Answers}
+use Rattle.receiver.specs.Entry.{Answers}
 use Rattle.receiver.specs.Broadcast.{Sent-letter, Brought}
-use Rattle.receiver.specs.Runs.{Run, Sound, Shows-text}
+use Rattle.receiver.specs.Runs.{Run}
 use Rattle.receiver.specs.Promises.{Run-promises, Continues, Row-sound, Row-text, Row-of-run}
 use Rattle.receiver.specs.declared.entry.Done.{Done}
-use Rattle.receiver.proofs.Steps.{refused-line, refused-store, not-refused, formed-run, length-run, run-more}
+use Rattle.receiver.proofs.Steps.{formed-run, length-run, run-more}
 use Rattle.receiver.proofs.Invariant.{sound-run, soundness}
 use Rattle.receiver.proofs.Recovering.{recovery, recovery-of-page}
 

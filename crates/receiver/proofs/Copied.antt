@@ -1,28 +1,24 @@
 -- Lines of different pages in either order, a second copy of a line, and what a line leaves alone. Assumes nothing.
 use mathlib.Core.Path.{_≡_, refl, sym, _∙_, ap, subst}
 use mathlib.Core.Logic.{_⊎_, inl, inr, ⊎-elim}
-use mathlib.Core.Bool.{Bool, true, false}
-use mathlib.Core.List.{List, [], _∷_}
+use mathlib.Core.Bool.{true, false}
+use mathlib.Core.List.{List}
 use Prim.Native.Nat.{ℕ, _<_}
-use lib.ListN.{length}
-use Rattle.std.proofs.shelf.Tests.{both-ways, cases-bool}
-use Rattle.line.specs.Line.{Fragment, meaning}
+use Rattle.std.proofs.shelf.Tests.{both-ways}
+use Rattle.line.specs.Line.{meaning}
 use Rattle.line.specs.Damage.{Copy}
-use Rattle.line.specs.Laws.{Part-of}
-use Rattle.line.specs.Reading.{page-of, version-of, letters-of, readable, fragment}
+use Rattle.line.specs.Reading.{version-of, readable, fragment}
 use Rattle.line.specs.declared.Line.{Line}
 use Rattle.line.proofs.Copies.{reads-part}
-use Rattle.store.specs.Page.{apply, Shows-same}
-use Rattle.store.specs.Layout.{slots, holds, well-formed, page-in}
-use Rattle.store.specs.Slots.{Only-slot, Applied}
+use Rattle.store.specs.Page.{apply}
+use Rattle.store.specs.Layout.{well-formed, page-in}
+use Rattle.store.specs.Slots.{Applied}
 use Rattle.store.proofs.Pages.{shows-then, shows-sym, shows-is}
 use Rattle.receiver.specs.Entry.{Answers}
-use Rattle.receiver.specs.Broadcast.{Among, One-text, Sent-letter}
-use Rattle.receiver.specs.Runs.{Sound}
-use Rattle.receiver.specs.Promises.{Commutation-of-pages, Second-copy-keeps, Second-copy, Frame}
+use Rattle.receiver.specs.Promises.{Commutation-of-pages, Second-copy, Frame}
 use Rattle.receiver.specs.declared.entry.Done.{Done}
 use Rattle.receiver.specs.declared.entry.Done.the-variants.{Took, Lost, Full, Refused}
-use Rattle.receiver.proofs.Overlays.{Sound-page, Stands, shows-stands, keeps-apply, sound-apply, commutes}
+use Rattle.receiver.proofs.Overlays.{Stands, shows-stands, keeps-apply, commutes}
 use Rattle.receiver.proofs.Steps.{Step, useless, no-room, applied, stepped, still-formed, refused-useless}
 use Rattle.receiver.proofs.Invariant.{pages-sound, sound-step}
 use Rattle.receiver.proofs.Bytes.{shows-apply}

@@ -1,25 +1,24 @@
 -- What a page shows depends on which of its lines came, and on nothing else. Assumes nothing.
 use mathlib.Core.Path.{_≡_, refl, sym, _∙_, ap, subst}
 use mathlib.Core.Logic.{_⊎_, inl, inr, ⊎-elim}
-use mathlib.Core.Bool.{Bool, true, false, cond}
+use mathlib.Core.Bool.{true}
 use mathlib.Core.List.{List, [], _∷_}
-use Prim.Native.Nat.{ℕ, _+_, _≤_, _<_}
+use Prim.Native.Nat.{ℕ, _≤_, _<_}
 use native.Mathlib.Omega.{arith}
 use lib.Dec.{eqb, ltb}
-use lib.ListN.{length}
 use Rattle.std.proofs.shelf.Tests.{cases-eq, cases-lt, cases-bool, both-ways, cond-true, cond-false, le-ltb, eq-eqb}
-use Rattle.line.specs.Line.{Fragment, meaning}
+use Rattle.line.specs.Line.{Fragment}
 use Rattle.line.specs.Reading.{page-of, version-of, letters-of, readable, fragment}
 use Rattle.line.specs.declared.Line.{Line}
 use Rattle.store.specs.Page.{Page, Pages, in-version, merge, overlay, apply, Shows-same}
-use Rattle.store.specs.Layout.{slots, holds, well-formed, page-in}
-use Rattle.store.specs.Slots.{No-room, Applied}
+use Rattle.store.specs.Layout.{well-formed, page-in}
+use Rattle.store.specs.Slots.{No-room}
 use Rattle.store.proofs.Pages.{shows-refl, shows-sym, shows-then, shows-is, there-slot}
 use Rattle.receiver.specs.Broadcast.{Among, here, there, Agree, One-text, Copy-of-sent, What-comes, One-version}
-use Rattle.receiver.specs.Runs.{Run, end, step, No-place}
-use Rattle.receiver.specs.Promises.{Same-lines, Page-dependence}
+use Rattle.receiver.specs.Runs.{Run, end, step}
+use Rattle.receiver.specs.Promises.{Page-dependence}
 use Rattle.receiver.specs.declared.entry.Done.{Done}
-use Rattle.receiver.proofs.Overlays.{Stands, version-in, own-page, other-page}
+use Rattle.receiver.proofs.Overlays.{Stands, version-in, other-page}
 use Rattle.receiver.proofs.Steps.{Step, useless, no-room, applied, stepped, still-formed, copied, copy-part, full-run}
 use Rattle.receiver.proofs.Recovering.{Keeps, keeps-run, sets-step, given-run, no-place}
 use Rattle.receiver.proofs.Bytes.{shows-in-version}

@@ -1,23 +1,21 @@
 -- Soundness: a store that says nothing but what was sent goes on to. Assumes nothing.
-use mathlib.Core.Path.{_≡_, refl, sym, _∙_, ap, subst}
-use mathlib.Core.Logic.{_⊎_, inl, inr, ⊎-elim}
-use mathlib.Core.Bool.{Bool, true, false, _&&_, cond}
-use mathlib.Core.List.{List, [], _∷_}
-use Prim.Native.Nat.{ℕ, _+_, _*_, _≤_, _<_, _/_}
+use mathlib.Core.Path.{_≡_, sym, _∙_, ap, subst}
+use mathlib.Core.Logic.{_⊎_, ⊎-elim}
+use mathlib.Core.Bool.{true, _&&_}
+use mathlib.Core.List.{List}
+use Prim.Native.Nat.{ℕ, _<_}
 use native.Mathlib.Omega.{arith}
 use lib.Dec.{ltb}
-use lib.ListN.{length, getD}
+use lib.ListN.{length}
 use Rattle.std.proofs.shelf.Tests.{and-parts, ltb-true, cond-both}
-use Rattle.line.specs.Line.{meaning}
-use Rattle.line.specs.Reading.{readable, fragment}
+use Rattle.line.specs.Reading.{fragment}
 use Rattle.line.specs.declared.Line.{Line}
-use Rattle.store.specs.Page.{Page, apply, Shows-same}
+use Rattle.store.specs.Page.{Page, Shows-same}
 use Rattle.store.specs.Layout.{slots, version-at, letter-at, holds, well-formed, slot-page, page-in}
-use Rattle.store.specs.Slots.{Applied}
 use Rattle.store.proofs.Formed.{holds-parts}
 use Rattle.store.proofs.Pages.{page-held, page-absent, slot-there, slot-version, slot-letter, slot-cases}
-use Rattle.receiver.specs.Broadcast.{Among, here, there, One-text, Copy-of-sent, What-comes, Sent-version, Sent-letter}
-use Rattle.receiver.specs.Runs.{Run, end, step, No-pages, Sound-slot, Sound, Every-letter}
+use Rattle.receiver.specs.Broadcast.{here, there, One-text, Copy-of-sent, What-comes, Sent-version, Sent-letter}
+use Rattle.receiver.specs.Runs.{Run, end, step, Sound-slot, Sound, Every-letter}
 use Rattle.receiver.specs.Promises.{Soundness}
 use Rattle.receiver.specs.declared.entry.Done.{Done}
 use Rattle.receiver.proofs.Overlays.{Sound-page, no-page-sound, sound-apply}

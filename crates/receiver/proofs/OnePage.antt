@@ -1,8 +1,8 @@
 -- Runs of lines of one page: they change one slot, and the bytes depend only on which lines came. Assumes nothing.
-use mathlib.Core.Path.{_≡_, refl, sym, _∙_, ap, subst}
+use mathlib.Core.Path.{_≡_, refl, sym, _∙_, subst}
 use mathlib.Core.Logic.{_⊎_, inl, inr, ⊎-elim}
-use mathlib.Core.Bool.{Bool, true, false}
-use mathlib.Core.List.{List, [], _∷_, _++_}
+use mathlib.Core.Bool.{true}
+use mathlib.Core.List.{List, _++_}
 use Prim.Native.Nat.{ℕ, _<_}
 use lib.ListN.{length}
 use Rattle.std.proofs.shelf.Tests.{both-ways}
@@ -10,7 +10,7 @@ use Rattle.line.specs.Reading.{page-of, readable}
 use Rattle.line.specs.declared.Line.{Line}
 use Rattle.store.specs.Page.{Shows-same}
 use Rattle.store.specs.Layout.{slots, holds, well-formed, page-in}
-use Rattle.store.specs.Slots.{Only-slot, No-room, In-slot}
+use Rattle.store.specs.Slots.{No-room, In-slot}
 use Rattle.store.proofs.Formed.{one-slot, same-slots}
 use Rattle.store.proofs.Pages.{shows-refl, shows-sym, page-there, there-slot}
 use Rattle.receiver.specs.Broadcast.{Among, here, there, One-text, What-comes, One-version}
@@ -19,8 +19,8 @@ use Rattle.receiver.specs.Promises.{Reordering}
 use Rattle.receiver.specs.declared.entry.Done.{Done}
 use Rattle.receiver.proofs.Steps.{Step, useless, no-room, applied, stepped, still-formed, same-length, copied, copy-part, formed-run, length-run}
 use Rattle.receiver.proofs.Bytes.{same-bytes, same-slot, has-room, run-same}
-use Rattle.receiver.proofs.Orders.{Split, split}
-use Rattle.receiver.proofs.Dependence.{Of, coherent, shown-same}
+use Rattle.receiver.proofs.Orders.{split}
+use Rattle.receiver.proofs.Dependence.{coherent, shown-same}
 
 -- nothing changed, or only the slot that page n has
 abbrev Page-only : (n : ℕ) (s s₁ : List ℕ) → Type 0

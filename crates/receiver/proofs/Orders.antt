@@ -1,16 +1,15 @@
 -- The order of two lines of one page and version, and a line that comes twice. Assumes nothing.
 use mathlib.Core.Path.{_≡_, refl, sym, _∙_, ap, subst}
-use mathlib.Core.Logic.{_⊎_, inl, inr, ⊎-elim}
-use mathlib.Core.Bool.{Bool, true, false, cond}
+use mathlib.Core.Logic.{⊎-elim}
+use mathlib.Core.Bool.{true, false}
 use mathlib.Core.List.{List, [], _∷_, _++_}
 use Prim.Native.Nat.{ℕ, _<_}
 use lib.Dec.{ltb}
-use lib.ListN.{length, getD}
+use lib.ListN.{length}
 use Rattle.std.proofs.shelf.Tests.{cases-bool, both-ways, cond-both, ltb-true}
 use Rattle.line.specs.Line.{Fragment, meaning}
 use Rattle.line.specs.Damage.{Copy}
-use Rattle.line.specs.Laws.{Part-of}
-use Rattle.line.specs.Reading.{page-of, version-of, letters-of, readable, fragment}
+use Rattle.line.specs.Reading.{page-of, version-of, readable, fragment}
 use Rattle.line.specs.declared.Line.{Line}
 use Rattle.line.proofs.Copies.{reads-part}
 use Rattle.store.specs.Page.{Page, in-version, merge, overlay, apply, Shows-same}
@@ -18,7 +17,7 @@ use Rattle.store.specs.Layout.{slots, holds, well-formed, page-in}
 use Rattle.store.specs.Slots.{Only-slot, No-room, In-slot, Applied}
 use Rattle.store.proofs.Formed.{one-slot, same-slots}
 use Rattle.store.proofs.Pages.{shows-then, shows-sym, shows-is, there-slot}
-use Rattle.receiver.specs.Broadcast.{Among, here, there, Agree, One-text}
+use Rattle.receiver.specs.Broadcast.{here, there, Agree, One-text}
 use Rattle.receiver.specs.Runs.{Run, end, step}
 use Rattle.receiver.specs.Promises.{Repetition, Commutation}
 use Rattle.receiver.specs.declared.entry.Done.{Done}

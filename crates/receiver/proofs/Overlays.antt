@@ -1,12 +1,12 @@
 -- Fragments applied to pages: order, repetition, soundness, what stands. Nothing here knows how a line is coded or how a store is laid out. Assumes nothing.
 use mathlib.Core.Path.{_≡_, refl, sym, _∙_, ap, subst}
-use mathlib.Core.Logic.{_⊎_, inl, inr, ⊎-elim}
-use mathlib.Core.Bool.{Bool, true, false, _&&_, cond}
+use mathlib.Core.Logic.{inl, inr}
+use mathlib.Core.Bool.{true, false, _&&_}
 use mathlib.Core.List.{List}
-use Prim.Native.Nat.{ℕ, _≤_, _<_}
+use Prim.Native.Nat.{ℕ, _<_}
 use native.Mathlib.Omega.{arith}
 use lib.Dec.{ltb, eqb}
-use Rattle.std.proofs.shelf.Tests.{and-parts, and-from, eq-eqb, eqb-true, ltb-true, lt-ltb, le-ltb, cond-both, cond-true, cond-false, cases-bool, ne-eqb, both-ways}
+use Rattle.std.proofs.shelf.Tests.{and-parts, and-from, eq-eqb, eqb-true, ltb-true, lt-ltb, cond-both, cond-true, cond-false, cases-bool, ne-eqb, both-ways}
 use Rattle.line.specs.Line.{Fragment, meaning}
 use Rattle.line.specs.Laws.{Part-of}
 use Rattle.line.specs.declared.Line.{Line}

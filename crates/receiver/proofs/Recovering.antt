@@ -1,25 +1,22 @@
 -- Recovery: a letter that came whole stands, unless the store was full. Assumes nothing.
 use mathlib.Core.Path.{_≡_, refl, sym, _∙_, ap, subst}
 use mathlib.Core.Logic.{_⊎_, inl, inr, ⊎-elim}
-use mathlib.Core.Bool.{Bool, true, false, _&&_}
-use mathlib.Core.List.{List, [], _∷_}
-use Prim.Native.Nat.{ℕ, _+_, _*_, _≤_, _<_, _/_}
-use native.Mathlib.Omega.{arith}
+use mathlib.Core.Bool.{true}
+use mathlib.Core.List.{List, []}
+use Prim.Native.Nat.{ℕ, _<_}
 use lib.Dec.{ltb}
-use lib.ListN.{length, getD}
 use Rattle.std.proofs.shelf.Tests.{and-parts, ltb-true, cases-bool, both-ways}
 use Rattle.line.specs.Line.{meaning}
-use Rattle.line.specs.Laws.{Part-of}
 use Rattle.line.specs.Reading.{page-of, version-of, letters-of, readable, fragment}
 use Rattle.line.specs.declared.Line.{Line}
 use Rattle.line.proofs.Copies.{reads-part, reads-brought}
-use Rattle.store.specs.Page.{Page, apply}
-use Rattle.store.specs.Layout.{slots, version-at, letter-at, holds, well-formed, slot-page, page-in}
-use Rattle.store.specs.Slots.{No-room, Applied}
+use Rattle.store.specs.Page.{apply}
+use Rattle.store.specs.Layout.{letter-at, holds, well-formed, page-in}
+use Rattle.store.specs.Slots.{No-room}
 use Rattle.store.proofs.Formed.{same-slots}
 use Rattle.store.proofs.Pages.{page-held, slot-version, slot-letter, there-slot}
-use Rattle.receiver.specs.Broadcast.{Among, here, there, One-text, Copy-of-sent, What-comes, Sent-letter, One-version, Brought}
-use Rattle.receiver.specs.Runs.{Run, end, step, Shows-text, No-place}
+use Rattle.receiver.specs.Broadcast.{Among, here, there, One-text, What-comes, One-version, Brought}
+use Rattle.receiver.specs.Runs.{Run, end, step, No-place}
 use Rattle.receiver.specs.Promises.{Recovery, Recovery-of-page, whole-page}
 use Rattle.receiver.specs.declared.entry.Done.{Done}
 use Rattle.receiver.proofs.Overlays.{Stands, shows-stands, keeps-apply, sets-apply}

@@ -1,24 +1,24 @@
 -- What one call does to a store that isn't turned away, in three cases, and what it keeps. Assumes nothing.
 use mathlib.Core.Path.{_≡_, refl, sym, _∙_, ap, subst}
-use mathlib.Core.Logic.{_⊎_, inl, inr, ⊎-elim}
-use mathlib.Core.Bool.{Bool, true, false, cond}
+use mathlib.Core.Logic.{_⊎_, inr, ⊎-elim}
+use mathlib.Core.Bool.{true, false}
 use mathlib.Core.List.{List, [], _∷_, _++_}
-use Prim.Native.Nat.{ℕ, _+_, _*_, _≤_, _<_, _/_}
+use Prim.Native.Nat.{ℕ, _<_}
 use native.Mathlib.Omega.{arith}
 use lib.Dec.{eqb}
-use lib.ListN.{length, getD}
-use Rattle.std.proofs.shelf.Tests.{eq-eqb, eqb-true, ne-eqb, cases-eq, cases-bool, both-ways, cond-true, cond-false}
+use lib.ListN.{length}
+use Rattle.std.proofs.shelf.Tests.{eq-eqb, ne-eqb, cases-eq, both-ways, cond-true, cond-false}
 use Rattle.line.specs.Line.{meaning}
 use Rattle.line.specs.Laws.{Part-of}
 use Rattle.line.specs.Reading.{page-of, readable, fragment}
 use Rattle.line.specs.declared.Line.{Line}
-use Rattle.line.proofs.Readability.{Readable, readable-parts, unreadable}
+use Rattle.line.proofs.Readability.{readable-parts, unreadable}
 use Rattle.line.proofs.Copies.{reads-part}
 use Rattle.store.specs.Layout.{slots, mark-at, holds, well-formed}
-use Rattle.store.specs.Slots.{Only-slot, Lowest-free, No-room, In-slot, Applied}
+use Rattle.store.specs.Slots.{No-room, In-slot, Applied}
 use Rattle.store.proofs.Formed.{holds-parts, holds-not, other-mark, other-holds, same-slots}
-use Rattle.receiver.specs.Entry.{refusal, refusal-number, Says, Answers, Refused-line}
-use Rattle.receiver.specs.Broadcast.{Among, here, there, Copy-of-sent, What-comes}
+use Rattle.receiver.specs.Entry.{refusal, Answers}
+use Rattle.receiver.specs.Broadcast.{here, Copy-of-sent}
 use Rattle.receiver.specs.Runs.{Run, end, step}
 use Rattle.receiver.specs.declared.entry.Done.{Done}
 use Rattle.receiver.specs.declared.entry.Done.the-variants.{Took, Lost, Full, Refused}

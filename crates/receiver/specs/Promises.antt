@@ -1,6 +1,6 @@
 -- What is promised of runs of calls. Each is a statement that the contract of a function names. Assumes nothing: these are definitions.
 use mathlib.Core.Path.{_≡_}
-use mathlib.Core.Bool.{Bool, true, false, _&&_}
+use mathlib.Core.Bool.{Bool, true, _&&_}
 use mathlib.Core.List.{List, [], _∷_, _++_}
 use mathlib.Core.Logic.{_⊎_}
 use Prim.Native.Nat.{ℕ, _<_}
@@ -13,7 +13,7 @@ use Rattle.line.specs.declared.Line.{Line}
 use Rattle.line.specs.Reading.{page-of, letters-of, readable}
 use Rattle.store.specs.Page.{Shows-same}
 use Rattle.store.specs.Layout.{slots, version-at, holds, well-formed, page-in}
-use Rattle.store.specs.Slots.{Only-slot, Row-of}
+use Rattle.store.specs.Slots.{Only-slot}
 use Rattle.receiver.specs.Entry.{Answers}
 use Rattle.receiver.specs.Broadcast.{Among, One-text, What-comes, Sent-letter, One-version, Brought}
 use Rattle.receiver.specs.Runs.{Run, No-pages, Sound, Every-letter, Shows-text, No-place}

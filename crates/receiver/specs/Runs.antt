@@ -2,8 +2,7 @@
 use mathlib.Core.Path.{_≡_}
 use mathlib.Core.Bool.{Bool, true, false}
 use mathlib.Core.List.{List, [], _∷_}
-use Prim.Native.Nat.{ℕ, _+_, _*_, _/_, _<_}
-use lib.ListN.{length, getD}
+use Prim.Native.Nat.{ℕ, _<_}
 use Rattle.line.specs.Line.{meaning}
 use Rattle.line.specs.Size.{rows, columns}
 use Rattle.line.specs.declared.Line.{Line}

@@ -1,6 +1,5 @@
 // The entries: a line that comes is turned away, lost, finds no room, or is taken.
 ghost use mathlib.Core.Path.{_≡_};
-ghost use Prim.Native.Nat.{ℕ};
 ghost use Rattle.std.specs.Options.{Cases as BySome};
 ghost use Rattle.receiver.specs.Entry.{refusal, Answers, Refused-at, counted};
 ghost use Rattle.receiver.specs.Promises.{Continues};

@@ -1,25 +1,24 @@
 -- A slot claimed for a page, and a line's letters over it: what that makes of the store's pages. Assumes nothing.
 use mathlib.Core.Path.{_≡_, refl, sym, _∙_, ap, subst}
 use mathlib.Core.Logic.{_⊎_, inl, inr, ⊎-elim}
-use mathlib.Core.Bool.{Bool, true, false, _&&_, cond}
+use mathlib.Core.Bool.{true, false, _&&_, cond}
 use mathlib.Core.List.{List}
-use Prim.Native.Nat.{ℕ, _+_, _*_, _≤_, _<_, _/_}
+use Prim.Native.Nat.{ℕ, _+_, _*_, _<_}
 use native.Mathlib.Omega.{arith}
 use native.Mathlib.Nat.{add-assoc}
 use lib.Dec.{ltb, eqb}
 use lib.ListN.{length, getD}
-use Rattle.std.proofs.shelf.Tests.{and-parts, and-from, and-left, and-right, lt-ltb, eq-eqb, ne-eqb, eqb-true, cases-eq, cases-lt, cond-true, cond-false, both-ways}
+use Rattle.std.proofs.shelf.Tests.{and-from, and-left, and-right, lt-ltb, eq-eqb, ne-eqb, cases-eq, cases-lt, cond-true, cond-false}
 use Rattle.coding.specs.Parity.{decode-letter}
-use Rattle.line.specs.Line.{Fragment}
 use Rattle.line.specs.Reading.{page-of, version-of, row-of, readable, letters-of, fragment, Header-of}
 use Rattle.line.specs.declared.Header.{Header}
 use Rattle.line.proofs.Readability.{readable-parts}
 use Rattle.store.specs.Page.{Page, begun, in-version, merge, overlay, apply, Shows-same}
-use Rattle.store.specs.Layout.{slots, mark-at, number-at, version-at, letter-at, holds, well-formed, slot-page, page-in}
-use Rattle.store.specs.Slots.{Only-slot, Lowest-free, No-room, In-slot, Applied}
+use Rattle.store.specs.Layout.{slots, version-at, holds, well-formed, slot-page, page-in}
+use Rattle.store.specs.Slots.{Only-slot, Lowest-free, Applied}
 use Rattle.store.specs.Writes.{row-start, Found, Free, Begun, Claimed, Merged}
 use Rattle.store.proofs.Formed.{holds-from, holds-not, holds-parts, holds-same, same-slots}
-use Rattle.store.proofs.Pages.{shows-refl, shows-then, shows-is, page-held, page-absent, slot-letter, slot-there, slot-version, absent-there, other-pages}
+use Rattle.store.proofs.Pages.{shows-then, shows-is, page-held, slot-letter, slot-there, slot-version, absent-there, other-pages}
 use Rattle.store.proofs.Writing.{merged-only, merged-mark, merged-number, merged-formed}
 
 in-version-kept : (s : List ℕ) (i v : ℕ) → version-at s i ≡ v → in-version (slot-page s i) v ≡ slot-page s i

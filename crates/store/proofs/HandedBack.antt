@@ -1,17 +1,16 @@
 -- A row as a part of the store. Assumes nothing.
-use mathlib.Core.Path.{_≡_, refl, sym, _∙_, ap, subst}
-use mathlib.Core.Logic.{_⊎_, inl, inr, ⊎-elim}
-use mathlib.Core.Bool.{Bool, true, false, _&&_}
+use mathlib.Core.Path.{_≡_, refl, sym, _∙_, ap}
+use mathlib.Core.Logic.{inr}
+use mathlib.Core.Bool.{true, false, _&&_}
 use mathlib.Core.List.{List, []}
-use Prim.Native.Nat.{ℕ, _+_, _*_, _-_, _≤_, _<_}
+use Prim.Native.Nat.{ℕ, _+_, _*_, _≤_, _<_}
 use native.Mathlib.Omega.{arith}
 use native.Mathlib.Nat.{add-assoc}
 use lib.Dec.{ltb}
 use lib.ListN.{length, getD, take, drop, length-drop}
 use lib.Seq.{getD-take, getD-drop, length-take-le}
 use Rattle.std.proofs.shelf.Tests.{and-from, and-left, and-right, lt-ltb, le-ltb, both-ways}
-use Rattle.store.specs.Page.{Page}
-use Rattle.store.specs.Layout.{slots, number-at, version-at, holds, well-formed, page-in, slot-page, First-fault}
+use Rattle.store.specs.Layout.{slots, version-at, holds, well-formed, page-in, First-fault}
 use Rattle.store.specs.Slots.{has-row, Row-of, Version-of}
 use Rattle.store.specs.Writes.{row-start, Found}
 use Rattle.store.proofs.Formed.{holds-not}

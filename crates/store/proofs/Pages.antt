@@ -1,15 +1,15 @@
 -- The bytes of a store as pages. Assumes nothing.
 use mathlib.Core.Path.{_≡_, refl, sym, _∙_, ap, subst}
 use mathlib.Core.Logic.{_⊎_, inl, inr, ⊎-elim}
-use mathlib.Core.Bool.{Bool, true, false, _&&_, cond}
+use mathlib.Core.Bool.{true, false, _&&_, cond}
 use mathlib.Core.List.{List}
-use Prim.Native.Nat.{ℕ, zero, suc, _+_, _*_, _≤_, _<_, _/_}
+use Prim.Native.Nat.{ℕ, zero, suc, _+_, _*_, _≤_, _<_}
 use native.Mathlib.Omega.{arith}
-use lib.Dec.{ltb, eqb}
-use lib.ListN.{length, getD}
+use lib.Dec.{ltb}
+use lib.ListN.{length}
 use Rattle.std.proofs.shelf.Tests.{and-from, lt-ltb, cases-bool, cases-eq, cases-lt, cond-true, cond-false, both-ways}
 use Rattle.store.specs.Page.{Page, no-page, Shows-same}
-use Rattle.store.specs.Layout.{slots, mark-at, number-at, version-at, letter-at, holds, well-formed, slot-page, page-below, page-in}
+use Rattle.store.specs.Layout.{slots, version-at, letter-at, holds, well-formed, slot-page, page-below, page-in}
 use Rattle.store.specs.Slots.{Only-slot}
 use Rattle.store.proofs.Formed.{Formed, formed, other-slot, other-letter, other-holds, holds-not, holds-parts, same-slots}
 

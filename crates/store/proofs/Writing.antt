@@ -1,22 +1,22 @@
 -- One more byte cleared or merged, and a slot begun. Assumes nothing.
 use mathlib.Core.Path.{_≡_, refl, sym, _∙_, ap, subst}
 use mathlib.Core.Logic.{_⊎_, inl, inr, ⊎-elim}
-use mathlib.Core.Bool.{Bool, true, false, _&&_, _||_}
+use mathlib.Core.Bool.{true, false}
 use mathlib.Core.List.{List}
-use Prim.Native.Nat.{ℕ, zero, suc, _+_, _-_, _*_, _≤_, _<_, _/_}
+use Prim.Native.Nat.{ℕ, _+_, _-_, _*_, _≤_, _<_}
 use native.Mathlib.Omega.{arith}
 use borrow.Author.Count.{below-more}
-use lib.Dec.{ltb, eqb}
+use lib.Dec.{ltb}
 use lib.ListN.{length, getD, set, length-set}
 use lib.Seq.{getD-set-same, getD-set-other}
-use Rattle.std.proofs.shelf.Tests.{cond-both, cases-lt, or-left, eq-eqb}
+use Rattle.std.proofs.shelf.Tests.{cond-both, cases-lt}
 use Rattle.coding.specs.Parity.{decode-letter}
 use Rattle.coding.proofs.Letters.{letter-or-none}
 use Rattle.store.specs.Page.{merge}
 use Rattle.store.specs.Layout.{slots, mark-at, number-at, holds, letter-fine, well-formed}
 use Rattle.store.specs.Slots.{Only-slot}
 use Rattle.store.specs.Writes.{row-start, Cleared, Begun, Merged}
-use Rattle.store.proofs.Formed.{Formed, formed, changed-slot, no-other, holds-from, holds-same}
+use Rattle.store.proofs.Formed.{formed, changed-slot, no-other, holds-from}
 
 pub clear-more : (s t : List ℕ) (at n : ℕ) → Cleared s t at n → at + n < length t → Cleared s (set t (at + n) 0) at (n + 1)
 clear-more s t at n w room = record {

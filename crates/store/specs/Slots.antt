@@ -3,12 +3,12 @@ use mathlib.Core.Path.{_≡_}
 use mathlib.Core.Bool.{Bool, true, false, _&&_}
 use mathlib.Core.List.{List}
 use mathlib.Core.Logic.{_⊎_}
-use Prim.Native.Nat.{ℕ, _+_, _*_, _/_, _≤_, _<_}
+use Prim.Native.Nat.{ℕ, _+_, _*_, _≤_, _<_}
 use lib.Dec.{ltb}
 use lib.ListN.{length, getD, take, drop}
 use Rattle.line.specs.Size.{rows, columns}
 use Rattle.line.specs.Line.{Fragment}
-use Rattle.store.specs.Page.{Page, apply, Shows-same}
+use Rattle.store.specs.Page.{apply, Shows-same}
 use Rattle.store.specs.Layout.{slots, mark-at, version-at, holds, well-formed, page-in}
 
 -- no byte but those of slot i changed

@@ -3,10 +3,10 @@ use mathlib.Core.Path.{_≡_}
 use mathlib.Core.Bool.{Bool, true, false, _||_}
 use mathlib.Core.List.{List}
 use mathlib.Core.Logic.{_⊎_}
-use Prim.Native.Nat.{ℕ, zero, suc, _+_, _*_, _/_, _≤_, _<_}
-use lib.ListN.{length, getD}
+use Prim.Native.Nat.{ℕ, zero, suc, _+_, _*_, _≤_, _<_}
+use lib.ListN.{getD}
 use Rattle.coding.specs.Parity.{decode-letter}
-use Rattle.store.specs.Page.{Page, merge, in-version, Shows-same}
+use Rattle.store.specs.Page.{merge, in-version, Shows-same}
 use Rattle.store.specs.Layout.{slots, mark-at, number-at, version-at, holds, slot-page, page-in}
 use Rattle.store.specs.Slots.{Only-slot, Lowest-free}
 

@@ -1,8 +1,8 @@
 // Whether a store is as it should be: one pass over each slot, with a table of the pages that were seen.
 ghost use mathlib.Core.Path.{_≡_};
-ghost use mathlib.Core.Bool.{Bool, true};
-ghost use Prim.Native.Nat.{ℕ, _+_, _*_, _/_, _≤_, _<_};
-ghost use lib.ListN.{length, getD};
+ghost use mathlib.Core.Bool.{true};
+ghost use Prim.Native.Nat.{_+_, _*_, _/_, _≤_, _<_};
+ghost use lib.ListN.{length};
 ghost use Rattle.std.specs.Options.{Cases as BySome};
 ghost use Rattle.store.specs.Layout.{letter-fine, letters-fine, slot-fine, well-formed, First-fault};
 ghost use Rattle.store.specs.Writes.{Seen};

@@ -1,7 +1,7 @@
 // A line's letters merged into the store: each letter that came is set at its row and column; where none came, what was there stays.
 ghost use mathlib.Core.Path.{_≡_};
-ghost use mathlib.Core.Bool.{Bool, true};
-ghost use Prim.Native.Nat.{ℕ, _+_, _*_, _≤_, _<_};
+ghost use mathlib.Core.Bool.{true};
+ghost use Prim.Native.Nat.{_+_, _*_, _≤_, _<_};
 ghost use lib.ListN.{length, getD, set};
 ghost use denote.Ref.{now, name};
 ghost use Rattle.std.specs.Options.{Cases as BySome};

@@ -1,8 +1,8 @@
 // The slots of a store: where a page stands, which one is free, and a slot begun with a page.
 ghost use mathlib.Core.Path.{_≡_};
-ghost use mathlib.Core.Bool.{Bool, true, false};
+ghost use mathlib.Core.Bool.{true, false};
 ghost use Prim.Native.Nat.{ℕ, _+_, _*_, _/_, _≤_, _<_};
-ghost use lib.ListN.{length, getD};
+ghost use lib.ListN.{length};
 ghost use Rattle.std.specs.Options.{Cases as BySome};
 ghost use Rattle.store.specs.Layout.{slots, mark-at, holds, well-formed};
 ghost use Rattle.store.specs.Slots.{No-room};

@@ -1,8 +1,7 @@
 -- The six numbers are read and tested at once; the laws hold of any bytes.
-use mathlib.Core.Path.{_≡_, sym, subst}
-use Prim.Native.Nat.{ℕ, _+_, _*_, _≤_, _<_}
+use mathlib.Core.Path.{sym, subst}
+use Prim.Native.Nat.{ℕ, _<_}
 use native.Mathlib.Omega.{arith}
-use lib.ListN.{getD}
 use Rattle.line.specs.Reading.{number-of, pair-of}
 use Rattle.line.proofs.Encoding.{six}
 use Rattle.line.proofs.Readability.{Readable, readable-from, unreadable, or-six, six-or}

@@ -1,9 +1,8 @@
-use mathlib.Core.Path.{_≡_, sym, subst}
-use mathlib.Core.Bool.{true}
-use Prim.Native.Nat.{ℕ, _+_, _≤_, _<_}
+use mathlib.Core.Path.{sym, subst}
+use Prim.Native.Nat.{_≤_}
 use native.Mathlib.Nat.{zero-add}
 use lib.ListN.{getD}
-use Rattle.std.proofs.shelf.Tests.{and-parts, and-from, both-ways}
+use Rattle.std.proofs.shelf.Tests.{and-parts, and-from}
 use Rattle.coding.specs.Hamming.{distance}
 use Rattle.line.proofs.within_limits.Needs as need
 

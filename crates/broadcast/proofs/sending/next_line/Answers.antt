@@ -1,4 +1,3 @@
-use mathlib.Core.Path.{_≡_, sym, _∙_}
 use native.Mathlib.Omega.{arith}
 use Rattle.broadcast.proofs.Sent.{sends}
 use Rattle.broadcast.proofs.Turns.{Turn-within, turn-within, no-pages}

@@ -1,8 +1,7 @@
 -- The table's entry is the byte's number, and so it corrects and detects.
-use mathlib.Core.Path.{_≡_, refl, sym, _∙_}
+use mathlib.Core.Path.{_≡_, _∙_}
 use Prim.Native.Nat.{_<_}
 use borrow.Author.Needs.{needs}
-use lib.Bits.{bitXor}
 use lib.Count.{onesIn}
 use lib.ListN.{getD}
 use Rattle.coding.specs.Hamming.{distance, code-words, nearest, decode-number}

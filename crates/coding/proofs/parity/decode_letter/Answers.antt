@@ -1,8 +1,7 @@
 -- Whichever way control comes, the answer is what the byte is read as.
-use mathlib.Core.Path.{_≡_, _∙_}
-use Prim.Native.Nat.{ℕ, _%_, _<_}
+use mathlib.Core.Path.{_∙_}
+use Prim.Native.Nat.{_<_}
 use borrow.Author.Needs.{needs}
-use Rattle.coding.specs.Parity.{decode-letter}
 use Rattle.coding.proofs.Letters.{odd-letter, no-letter, reads-whole, detects-one}
 use Rattle.coding.proofs.parity.decode_letter.Needs as need
 

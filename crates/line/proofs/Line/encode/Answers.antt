@@ -1,9 +1,9 @@
-use mathlib.Core.Path.{_≡_, refl, sym, _∙_, subst}
-use Prim.Native.Nat.{ℕ, _+_, _<_}
+use mathlib.Core.Path.{_≡_, refl, sym, subst}
+use Prim.Native.Nat.{_+_}
 use native.Mathlib.Omega.{arith}
 use borrow.Author.Needs.{needs}
-use lib.ListN.{length, getD}
-use Rattle.line.specs.Line.{Valid, encode-line}
+use lib.ListN.{length}
+use Rattle.line.specs.Line.{encode-line}
 use Rattle.line.specs.Laws.{Undamaged}
 use Rattle.line.proofs.Encoding.{encoded-header, encoded-more, encoded-all}
 use Rattle.line.proofs.Copies.{undamaged}

@@ -1,4 +1,4 @@
-use mathlib.Core.Path.{refl, sym}
+use mathlib.Core.Path.{refl}
 use native.Mathlib.Omega.{arith}
 use Rattle.store.proofs.Faults.{faulty}
 use Rattle.receiver.proofs.Steps.{refused-line, refused-store, not-refused}

@@ -1,11 +1,11 @@
-use mathlib.Core.Path.{_≡_, refl, sym, _∙_}
-use mathlib.Core.Bool.{false, true}
-use Prim.Native.Nat.{ℕ, _+_, _*_, _<_, _≤_}
+use mathlib.Core.Path.{refl, sym, _∙_}
+use mathlib.Core.Bool.{false}
+use Prim.Native.Nat.{_<_}
 use native.Mathlib.Omega.{arith}
 use borrow.Author.Needs.{needs}
 use borrow.Author.Count.{below-more}
-use lib.ListN.{length, getD, length-set, replicate, getD-replicate}
-use Rattle.store.specs.Layout.{number-at, slot-fine, slot-count}
+use lib.ListN.{length-set, replicate, getD-replicate}
+use Rattle.store.specs.Layout.{number-at}
 use Rattle.store.proofs.Faults.{seen-none, seen-more, all-fine, slot-whole}
 use Rattle.store.proofs.check.find_fault.Needs as need
 

@@ -1,8 +1,6 @@
-use mathlib.Core.Path.{_≡_, refl, sym}
-use Prim.Native.Nat.{_+_, _*_, _<_}
-use native.Mathlib.Omega.{arith}
+use mathlib.Core.Path.{sym}
+use Prim.Native.Nat.{_<_}
 use borrow.Author.Needs.{needs}
-use lib.ListN.{getD}
 use Rattle.store.specs.Layout.{number-at}
 use Rattle.store.proofs.Faults.{slot-past, slot-cut, slot-tests}
 use Rattle.store.proofs.check.slot_fine.Needs as need

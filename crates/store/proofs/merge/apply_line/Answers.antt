@@ -1,9 +1,5 @@
-use mathlib.Core.Path.{_≡_, _∙_}
-use Prim.Native.Nat.{_<_}
 use native.Mathlib.Omega.{arith}
-use Rattle.line.specs.Reading.{row-of}
 use Rattle.line.proofs.Readability.{readable-parts}
-use Rattle.store.specs.Layout.{slots}
 use Rattle.store.proofs.Applying.{applied}
 use Rattle.store.proofs.merge.apply_line.Needs as need
 

@@ -1,4 +1,3 @@
-use mathlib.Core.Path.{refl}
 use native.Mathlib.Omega.{arith}
 use Rattle.store.proofs.HandedBack.{row-fault, row-high, row-absent, row-wide, row-part}
 use Rattle.store.proofs.rows.row.Needs as need

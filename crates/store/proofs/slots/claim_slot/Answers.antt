@@ -1,6 +1,3 @@
-use mathlib.Core.Path.{refl}
-use native.Mathlib.Omega.{arith}
-use Rattle.store.specs.Layout.{holds}
 use Rattle.store.proofs.Formed.{no-other}
 use Rattle.store.proofs.Writing.{begun-formed}
 use Rattle.store.proofs.Applying.{claimed-kept, claimed-anew, claimed-free}
