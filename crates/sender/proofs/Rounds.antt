@@ -1,21 +1,17 @@
 -- A round of the sender: the lines have ranks, row after row, and each turn goes on by one rank. Assumes nothing.
 use mathlib.Core.Path.{_≡_, refl, sym, ap, _∙_}
 use mathlib.Core.Logic.{_⊎_, inl, inr, ⊎-elim}
-use mathlib.Core.Bool.{cond}
 use Prim.Native.Nat.{ℕ, zero, suc, _+_, _-_, _*_, _/_, _%_, _≤_, _<_}
 use native.Mathlib.Nat.{add-mul}
 use native.Mathlib.Numerals.{add-one}
 use native.Mathlib.Omega.{arith}
 use lib.Arith.{digits-lt, digits-div, digits-mod}
-use lib.Dec.{ltb, eqb}
 use Rattle.line.specs.Size.{rows}
-use Rattle.std.specs.declared.option.Option.{Option}
 use Rattle.std.specs.declared.option.Option.the-variants.{Some, None}
 use Rattle.std.specs.Options.{valueOr}
 use Rattle.std.proofs.shelf.Tests.{cases-lt, cond-true, cond-false, lt-ltb, le-ltb, eq-eqb, ne-eqb}
 use Rattle.sender.specs.declared.turns.Schedule.{Schedule}
-use Rattle.sender.specs.declared.turns.Turn.{Turn}
-use Rattle.sender.specs.Schedule.{in-range, line-of, turn, one-on, after, after-turns, turn-at, Goes, Each-line-once}
+use Rattle.sender.specs.Schedule.{in-range, line-of, turn, one-on, after, after-turns, Each-line-once}
 
 pub within : (limit n : ℕ) → n < limit → in-range limit n ≡ n
 unfolding in-range

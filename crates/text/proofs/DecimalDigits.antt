@@ -3,8 +3,7 @@ use mathlib.Core.Path.{_≡_, refl, sym, ap, _∙_}
 use mathlib.Core.Bool.{Bool, true, false, _&&_}
 use mathlib.Core.List.{List, [], _∷_, _++_}
 use mathlib.Core.Logic.{⊎-elim}
-use Prim.Native.Nat.{ℕ, zero, suc, _+_, _-_, _<_, _≤_}
-use native.Mathlib.Nat.{eq-or-lt-of-le, le-of-suc-le-suc}
+use Prim.Native.Nat.{ℕ, suc, _+_, _<_, _≤_}
 use native.Mathlib.Numerals.{one-add}
 use native.Mathlib.Omega.{arith}
 use lib.Dec.{eqb, leb, ltb}
@@ -14,20 +13,10 @@ use Rattle.std.specs.shelf.Lists.{All, leading}
 use Rattle.std.specs.declared.option.Option.the-variants.{Some}
 use Rattle.std.proofs.shelf.Lists.{take-at, drop-at}
 use Rattle.std.proofs.shelf.Tests.{and-parts, eqb-true, leb-true, ltb-true, cond-true, cond-false, cond-both, cases-bool}
+use Rattle.coding.proofs.Below.{all-below, below-at}
 use Rattle.text.specs.PageText.{digits-value, read-number}
 use Rattle.text.specs.PageTextWritten.{decimal}
 use Rattle.text.proofs.PageTextWords.{number-found}
-
--- a test that passes at each number below n
-abbrev all-below : ℕ → (ℕ → Bool) → Bool
-all-below zero f = true
-all-below (suc n) f = f n && all-below n f
-
-below-at : (n : ℕ) (f : ℕ → Bool) → all-below n f ≡ true → (k : ℕ) → k < n → f k ≡ true
-below-at zero f t k h = absurd (omega arith)
-below-at (suc n) f t k h =
-    ⊎-elim (λ e. ap f e ∙ and-parts (f n) (all-below n f) t .0)
-    (λ lt. below-at n f (and-parts (f n) (all-below n f) t .1) k lt) (eq-or-lt-of-le (le-of-suc-le-suc h))
 
 -- what is seen of every byte's digits
 digits-test : ℕ → Bool

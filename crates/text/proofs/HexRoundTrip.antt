@@ -1,30 +1,16 @@
 -- Reading what was written gives the same bytes. Assumes nothing.
 use mathlib.Core.Path.{_≡_, refl, sym, ap, _∙_}
-use mathlib.Core.Bool.{Bool, true, _&&_}
-use mathlib.Core.Logic.{⊎-elim}
+use mathlib.Core.Bool.{true}
 use mathlib.Core.List.{List, [], _∷_, _++_}
-use Prim.Native.Nat.{ℕ, zero, suc, _+_, _-_, _*_, _/_, _%_, _≤_, _<_}
-use native.Mathlib.Nat.{eq-or-lt-of-le, le-of-suc-le-suc}
+use Prim.Native.Nat.{ℕ, zero, suc, _+_, _*_, _/_, _%_, _≤_, _<_}
 use native.Mathlib.Omega.{arith}
 use lib.Dec.{ltb, eqb}
-use lib.ListN.{length, getD}
-use Rattle.std.specs.declared.option.Option.{Option}
-use Rattle.std.specs.declared.option.Option.the-variants.{Some, None}
-use Rattle.std.proofs.shelf.Tests.{and-parts, eqb-true, cond-both}
+use lib.ListN.{getD}
+use Rattle.std.specs.declared.option.Option.the-variants.{Some}
+use Rattle.std.proofs.shelf.Tests.{eqb-true, cond-both}
+use Rattle.coding.proofs.Below.{all-below, below-at}
 use Rattle.text.specs.Hex.{blank, between, digit-value, byte-of, in-front, hex-bytes, line-bytes, digit-of, hex-byte, hex-text, Bytes, Written-is-read}
-use Rattle.text.specs.Lines.{without-return}
 use Rattle.text.proofs.HexReading.{front-blank, front-byte, is-byte, untrimmed}
-
--- the test f passes at each number below n
-abbrev all-below : ℕ → (ℕ → Bool) → Bool
-all-below zero f = true
-all-below (suc n) f = f n && all-below n f
-
-below-at : (n : ℕ) (f : ℕ → Bool) → all-below n f ≡ true → (k : ℕ) → k < n → f k ≡ true
-below-at zero f t k h = absurd (omega arith)
-below-at (suc n) f t k h =
-    ⊎-elim (λ e. ap f e ∙ and-parts (f n) (all-below n f) t .0)
-    (λ lt. below-at n f (and-parts (f n) (all-below n f) t .1) k lt) (eq-or-lt-of-le (le-of-suc-le-suc h))
 
 -- the digit of a value has that value
 digit-test : all-below 16 (λ v. eqb v (digit-value (digit-of v))) ≡ true

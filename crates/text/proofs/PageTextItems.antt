@@ -2,16 +2,16 @@
 use mathlib.Core.Path.{_≡_, refl, sym, ap, _∙_}
 use mathlib.Core.Bool.{Bool, true, false, cond, _&&_}
 use mathlib.Core.List.{List, [], _∷_}
-use mathlib.Core.Logic.{_⊎_, ⊎-elim}
-use Prim.Native.Nat.{ℕ, _+_, _-_, _<_, _≤_}
+use mathlib.Core.Logic.{⊎-elim}
+use Prim.Native.Nat.{ℕ, _+_, _<_, _≤_}
 use native.Mathlib.Omega.{arith}
 use lib.Chars.{codes}
-use lib.Dec.{eqb, leb, ltb}
+use lib.Dec.{eqb, leb}
 use lib.ListN.{length, getD, drop}
 use Rattle.std.specs.declared.option.Option.{Option}
 use Rattle.std.specs.declared.option.Option.the-variants.{Some, None}
 use Rattle.std.proofs.shelf.Lists.{at-drop-more, at-drop-all}
-use Rattle.std.proofs.shelf.Tests.{and-from, and-left, and-right, cond-true, cond-false, le-leb, lt-leb, le-ltb, lt-ltb, leb-true, eq-eqb, ne-eqb, and-parts, cases-bool}
+use Rattle.std.proofs.shelf.Tests.{cond-true, cond-false, leb-true, eq-eqb, ne-eqb, and-parts, cases-bool}
 use Rattle.coding.specs.Parity.{is-letter}
 use Rattle.text.proofs.PageTextWords.{and-then-some, cond-some, number-bound}
 use Rattle.line.specs.Size.{rows, columns}

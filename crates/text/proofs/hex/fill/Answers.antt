@@ -1,13 +1,13 @@
 use mathlib.Core.Path.{_≡_, sym, ap, _∙_}
 use mathlib.Core.List.{[]}
-use Prim.Native.Nat.{_+_, _<_}
+use Prim.Native.Nat.{_+_}
 use native.Mathlib.Omega.{arith}
-use lib.ListN.{getD, length, drop}
+use lib.ListN.{getD, drop}
 use Rattle.std.specs.Of.Vec.{vec-items}
 use Rattle.std.specs.Options.{isSome, valueOr}
 use Rattle.std.proofs.shelf.Lists.{getD-default, getD-past}
 use Rattle.text.specs.Hex.{hex-bytes, blank}
-use Rattle.text.proofs.HexReading.{after, after-none, at-blank, all-read, not-read, one-read, whole-byte}
+use Rattle.text.proofs.HexReading.{after, at-blank, all-read, not-read, one-read, whole-byte}
 use Rattle.text.proofs.hex.fill.Needs as need
 use Rattle.text.proofs.hex.fill.Needs.{then-i-line, else-i-line, After-byte-of}
 
