@@ -12,3 +12,5 @@ pub mod PageTextRoundTrip
 pub mod PageTextSound
 pub mod PageTextWords
 pub mod PageTextWriting
+pub mod Numbers
+pub mod Words

@@ -1,4 +1,5 @@
 pub mod Lines
+pub mod Number
 pub mod Hex
 pub mod Screen
 pub mod PageText

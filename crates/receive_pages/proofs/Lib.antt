@@ -1,0 +1,3 @@
+pub mod CommandWords
+pub mod InputLines
+pub mod PageReports

@@ -1,0 +1,3 @@
+pub mod CommandLine
+pub mod Intake
+pub mod Report
