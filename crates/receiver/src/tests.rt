@@ -10,32 +10,6 @@ use std::test::*;
 
 const SLOT: usize = 1003;
 
-// A line of page 18 whose letters begin with HELLO.
-fn hello(version: u8, row: u8) -> [u8; 46] {
-    let mut letters = [b' '; 40];
-    letters[0] = b'H';
-    letters[1] = b'E';
-    letters[2] = b'L';
-    letters[3] = b'L';
-    letters[4] = b'O';
-    let line = Line {
-        page: 18,
-        version,
-        row,
-        letters,
-    };
-    line.encode()
-}
-
-// The first letters of a row.
-fn start(row: &[u8]) -> &[u8] {
-    if row.len() < 5 { row } else { &row[0..5] }
-}
-
-fn took(done: Done) -> bool {
-    matches!(done, Done::Took)
-}
-
 #[test]
 fn bytes_of_hello() -> Result<(), Fail> {
     let line = hello(3, 1);
@@ -87,4 +61,30 @@ fn refusals() -> Result<(), Fail> {
     check_eq(refusal_place(&line, &store), Some(1))?;
     check_eq(refusal_place(&line, &store[0..1500]), Some(1))?;
     check_eq(row(&store, 18, 1).len(), 0)
+}
+
+// A line of page 18 whose letters begin with HELLO.
+fn hello(version: u8, row: u8) -> [u8; 46] {
+    let mut letters = [b' '; 40];
+    letters[0] = b'H';
+    letters[1] = b'E';
+    letters[2] = b'L';
+    letters[3] = b'L';
+    letters[4] = b'O';
+    let line = Line {
+        page: 18,
+        version,
+        row,
+        letters,
+    };
+    line.encode()
+}
+
+// The first letters of a row.
+fn start(row: &[u8]) -> &[u8] {
+    if row.len() < 5 { row } else { &row[0..5] }
+}
+
+fn took(done: Done) -> bool {
+    matches!(done, Done::Took)
 }
