@@ -48,6 +48,7 @@ pub record Shows-sent (ps : List Page) (sent : List Line) (s₀ : List ℕ) (ls 
   pub signs : Signs-true ps n r t
   pub whole : Row-whole ps sent s₀ ls s n r t
 
+-- of any text, any broadcast of it, and whatever came of that
 abbrev pub Text-to-screen : (s : List ℕ) (n r : ℕ) (t : List ℕ) → Type 0
 Text-to-screen s n r t =
     (text : List ℕ) (ps : List Page) (sent : List Line) (s₀ : List ℕ) (ls : List (List ℕ)) (rs : List Done) → Came text ps sent s₀ ls rs s → Shows-sent ps sent s₀ ls s n r t

@@ -19,6 +19,7 @@ number-of l k = decode-number (getD l k 0)
 unfoldable pub pair-of : List ℕ → ℕ → ℕ
 pair-of l k = 16 * number-of l (2 * k) + number-of l (2 * k + 1)
 
+-- the page, the version and the row that the header names
 abbrev pub page-of : List ℕ → ℕ
 page-of l = pair-of l 0
 

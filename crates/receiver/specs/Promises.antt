@@ -117,6 +117,7 @@ pub record Second-copy-keeps (m : Line) (k s s₁ s₂ : List ℕ) : Type 0 wher
   -- nor, in a store that says nothing but what was sent, any that is known
   pub known-letters : (sent : List Line) → One-text sent → Among m sent → Sound sent s → (r c : ℕ) → r < rows → c < columns → 0 < page-in s₁ (m .page) .letters r c → page-in s₂ (m .page) .letters r c ≡ page-in s₁ (m .page) .letters r c
 
+-- of any line, any two copies of it, and any store that takes the first
 abbrev pub Second-copy : Type 0
 Second-copy = (m : Line) (k l s s₁ s₂ : List ℕ) (q : Done) → well-formed s ≡ true → Copy m k → Copy m l → Answers k s Took s₁ → Answers l s₁ q s₂ → Second-copy-keeps m k s s₁ s₂
 
@@ -129,6 +130,7 @@ pub record Row-after-run (s₀ : List ℕ) (ls : List (List ℕ)) (s : List ℕ)
   pub only-sent : No-pages s₀ → (c : ℕ) → 0 < getD t c 0 → (v : ℕ) × Sent-letter sent n v r c (getD t c 0)
   pub brought : (v : ℕ) → One-version sent n v → (c : ℕ) → Brought sent ls n r c → No-place s₀ s n ⊎ ((length t ≡ columns) × ((m : Line) → Among m sent → m .page ≡ n → 0 < meaning m .letters r c → getD t c 0 ≡ meaning m .letters r c))
 
+-- of any run of calls that led to the store
 abbrev pub Row-of-run : (s : List ℕ) (n r : ℕ) (t : List ℕ) → Type 0
 Row-of-run s n r t =
     (s₀ : List ℕ) (ls : List (List ℕ)) (rs : List Done) (sent : List Line) → well-formed s₀ ≡ true → Run s₀ ls rs s → What-comes sent ls → One-text sent → Row-after-run s₀ ls s n r t sent

@@ -51,6 +51,7 @@ slot-fine s i = ltb i 60 && (leb (1003 * i + 1003) (length s) && (leb (mark-at s
 abbrev pub slot-count : List ℕ → ℕ
 slot-count s = (length s + 1002) / 1003
 
+-- whether each of the first n slots is as it should be
 unfoldable pub fine-below : List ℕ → ℕ → Bool
 fine-below s zero = true
 fine-below s (suc i) = slot-fine s i && fine-below s i
