@@ -1,17 +1,20 @@
 -- Lemmas on pages as they are printed.
-use mathlib.Core.Path.{_≡_, sym, ap, _∙_}
-use mathlib.Core.Bool.{true, false, _&&_}
+use mathlib.Core.Path.{_≡_, refl, sym, ap, _∙_}
+use mathlib.Core.Bool.{Bool, true, false, not, _&&_}
 use mathlib.Core.List.{List, [], _∷_, _++_, append-assoc}
 use Prim.Native.Nat.{ℕ, _+_, _<_}
 use native.Mathlib.Numerals.{add-one}
 use lib.Dec.{ltb}
 use Rattle.line.specs.Size.{rows, columns}
+use Rattle.std.specs.Orderings.{Decides}
+use Rattle.std.specs.shelf.Text.{sameBytes}
 use Rattle.std.proofs.shelf.Counted.{fill-by-all}
-use Rattle.std.proofs.shelf.Tests.{and-parts, and-from, lt-ltb, cond-true, cond-false}
+use Rattle.std.proofs.shelf.Tests.{and-parts, and-from, lt-ltb, cond-true, cond-false, both-ways}
 use Rattle.store.specs.Layout.{well-formed, page-in}
 use Rattle.store.specs.Slots.{Row-of, has-row, Version-of}
 use Rattle.text.specs.Screen.{shown}
-use Rattle.receive_pages.specs.Report.{row-letters, row-lines, heading-line, missing-line, page-report}
+use Rattle.text.proofs.Words.{same-word, other-word}
+use Rattle.receive_pages.specs.Report.{row-letters, row-lines, heading-line, missing-line, page-report, shown-otherwise}
 
 -- a row that is handed back is the row of the page
 pub row-is : (s : List ℕ) (n r : ℕ) (t : List ℕ) → (well-formed s && page-in s n .there) ≡ true → r < rows → Row-of s n r t → t ≡ row-letters (page-in s n) r
@@ -42,3 +45,13 @@ report-there s n v before now₁ now₂ h e₁ e₂ =
 pub report-missing : (s : List ℕ) (n : ℕ) (before now₁ : List ℕ) → (well-formed s && page-in s n .there) ≡ false → now₁ ≡ before ++ missing-line n → now₁ ≡ before ++ page-report s n
 unfolding page-report
 report-missing s n before now₁ h e = e ∙ ap (λ x. before ++ x) (sym (cond-false _ _ _ h))
+
+-- the test of two texts
+pub same-test : (b : Bool) (x y : List ℕ) → Decides b (x ≡ y) → b ≡ sameBytes x y
+same-test true x y h = sym (same-word x y (h .0 refl))
+same-test false x y h = sym (other-word x y (λ e. both-ways false refl (h .1 e)))
+
+-- a page that was compared with what was shown before
+pub compared : (b : Bool) (before text old new : List ℕ) (s : List ℕ) (n : ℕ) → old ≡ before → new ≡ text → text ≡ page-report s n → Decides b (old ≡ new) → not b ≡ shown-otherwise before s n
+compared b before text old new s n e₁ e₂ e₃ h =
+    ap not (same-test b old new h ∙ ap (λ x. sameBytes x new) e₁ ∙ ap (sameBytes before) (e₂ ∙ e₃))

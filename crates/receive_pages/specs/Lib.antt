@@ -1,3 +1,4 @@
 pub mod CommandLine
 pub mod Intake
 pub mod Report
+pub mod StoreFile

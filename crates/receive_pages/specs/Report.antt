@@ -1,10 +1,11 @@
 -- What is printed of a store. Assumes nothing: these are definitions.
-use mathlib.Core.Bool.{cond, _&&_}
+use mathlib.Core.Bool.{Bool, not, cond, _&&_}
 use mathlib.Core.List.{List, [], _∷_, _++_, map}
 use Prim.Native.Nat.{ℕ, zero, suc}
 use lib.Chars.{codes}
 use Rattle.std.specs.Written.{decimal}
 use Rattle.std.specs.Iters.{counting}
+use Rattle.std.specs.shelf.Text.{sameBytes}
 use Rattle.line.specs.Size.{rows, columns}
 use Rattle.store.specs.Layout.{well-formed, page-in}
 use Rattle.store.specs.Page.{Page}
@@ -31,6 +32,10 @@ missing-line n = codes "page " ++ (decimal n ++ (codes " not received" ++ 10 ∷
 unfoldable pub page-report : List ℕ → ℕ → List ℕ
 page-report s n =
     cond (well-formed s && page-in s n .there) (heading-line n (page-in s n .version) ++ row-lines (page-in s n) rows) (missing-line n)
+
+-- whether page n of a store is printed otherwise than it was shown
+abbrev pub shown-otherwise : (before : List ℕ) (s : List ℕ) (n : ℕ) → Bool
+shown-otherwise before s n = not (sameBytes before (page-report s n))
 
 -- the last line: how many lines were lost, and for how many there was no room
 abbrev pub counts-line : ℕ → ℕ → List ℕ

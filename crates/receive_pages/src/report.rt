@@ -3,10 +3,11 @@ ghost use mathlib.Core.Path.{_≡_};
 ghost use mathlib.Core.List.{_++_};
 ghost use Rattle.line.specs.Size.{rows};
 ghost use Rattle.std.specs.Of.String.{string-bytes};
+ghost use Rattle.std.specs.Results.{Cases as ByOk};
 ghost use Rattle.std.specs.Vec.{made};
 ghost use Rattle.store.specs.Layout.{well-formed, page-in};
 ghost use mathlib.Core.Bool.{true, _&&_};
-ghost use Rattle.receive_pages.specs.Report.{row-lines, heading-line, missing-line, page-report, counts-line};
+ghost use Rattle.receive_pages.specs.Report.{row-lines, heading-line, missing-line, page-report, shown-otherwise, counts-line};
 use broadcast::show_row;
 use broadcast::shown_version;
 use line::ROWS;
@@ -26,6 +27,22 @@ pub fn write_page(heap: Global, store: &[u8], page: u8, out: &mut String) -> Res
         None => write_missing(heap, page, out)?,
     }
     Ok(())
+}
+
+// Draws a page anew as it is printed, and says whether it is another than was shown before.
+pub fn redraw_page(
+    heap: Global,
+    store: &[u8],
+    page: u8,
+    shown: &mut String,
+) -> Result<bool, AllocError>
+    ensures { λ r. ⌜ ByOk r (λ changed. (string-bytes (now (shown .exit)) ≡ page-report (now (store .entry)) page) × (changed ≡ shown-otherwise (string-bytes (now (shown .entry))) (now (store .entry)) page)) (λ _. now (shown .exit) ≡ now (shown .entry)) ⌝ }
+{
+    let mut text = String::new(heap);
+    write_page(heap, store, page, &mut text)?;
+    let same = shown.as_str() == text.as_str();
+    *shown = text;
+    Ok(!same)
 }
 
 // Appends the rows of a page that is there.

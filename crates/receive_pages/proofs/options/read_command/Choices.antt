@@ -1,15 +1,10 @@
 use mathlib.Core.Path.{_≡_}
 use mathlib.Core.List.{map}
-use Prim.Native.Nat.{_-_}
-use lib.ListN.{length, drop}
+use lib.ListN.{drop}
 use Rattle.std.specs.Of.String.{string-bytes}
-use Rattle.std.specs.Of.Vec.{vec-items}
-use Rattle.receive_pages.specs.CommandLine.{asked, asked-behind}
-use Rattle.receive_pages.proofs.options.read_command.Given as given
+use Rattle.receive_pages.specs.CommandLine.{asked, asked-behind, given}
+use Rattle.receive_pages.proofs.options.read_command.Given as given·loop
 
 -- the words that are left ask, behind what was given, for what all the words ask for
-abbrev pub Inv-loop-at : given.InvT-loop-at
-Inv-loop-at l = asked-behind (l .slots) (vec-items (l .pages)) (map string-bytes (drop (l .at) (l .words))) ≡ asked (map string-bytes (l .words))
-
-abbrev pub μ-loop-at : given.MeasureT-loop-at
-μ-loop-at l = length (l .words) - l .at
+abbrev pub Inv-loop-word : given·loop.InvT-loop-word
+Inv-loop-word l = asked-behind (l .open) (given (l .options)) (map string-bytes (drop (l .word-index) (l .words))) ≡ asked (map string-bytes (l .words))
