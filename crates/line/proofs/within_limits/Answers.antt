@@ -5,8 +5,8 @@ use Rattle.line.proofs.within_limits.Goals as goal
 
 pub returns : goal.returns
 returns c =
-    let a = c.turned-at-most-numbers.ensures in
-    let b = c.turned-at-most-letters.ensures in
+    let a = c.turned_at_most-numbers.ensures in
+    let b = c.turned_at_most-letters.ensures in
     let s = c.args.sent.now in
     let t = c.args.came.now in (
       λ e. let p = and_parts _ _ e in record {

@@ -7,7 +7,7 @@ use Rattle.line.proofs.Line.encode.Goals as goal
 
 pub loop-c-init : goal.loop-c-init
 loop-c-init c =
-    encoded_header c.args.self.now _ refl c.encode_number.ensures c.encode-number-2.ensures c.encode-number-3.ensures c.encode-number-4.ensures c.encode-number-5.ensures c.encode-number-6.ensures
+    encoded_header c.args.self.now _ refl c.encode_number.ensures c.encode_number-2.ensures c.encode_number-3.ensures c.encode_number-4.ensures c.encode_number-5.ensures c.encode_number-6.ensures
 
 pub loop-c-preserved : goal.loop-c-preserved
 loop-c-preserved c =
