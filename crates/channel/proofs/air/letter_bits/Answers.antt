@@ -10,7 +10,7 @@ returns-then-damaged c =
     let first = c.chance-damaged.ensures in
     let second = c.below-place.ensures in
     record {
-      bits = c.one-bit.ensures ∙ ap (λ x. 2 ^ x) (second.answer ∙ ap (drawn_below 8) first.state) ∙ sym (cond-true _ _ _ (sym first.answer ∙ c.if-damaged.true));
+      bits = c.one_bit.ensures ∙ ap (λ x. 2 ^ x) (second.answer ∙ ap (drawn_below 8) first.state) ∙ sym (cond-true _ _ _ (sym first.answer ∙ c.if-damaged.true));
       state = second.state ∙ ap next_state first.state;
     }
 

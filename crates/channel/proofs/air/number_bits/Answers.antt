@@ -17,7 +17,7 @@ returns-then-damaged c =
     let both = c.chance-both.ensures.answer ∙ ap (comes_about 500) s2 in
     let further = c.below-further.ensures.answer ∙ ap (drawn_below 7) s3 in
     record {
-      bits = c.some-bits.ensures ∙ alike _ _ _ _ _ _ both place further ∙ sym (cond-true _ _ _ (sym c.chance-damaged.ensures.answer ∙ c.if-damaged.true));
+      bits = c.some_bits.ensures ∙ alike _ _ _ _ _ _ both place further ∙ sym (cond-true _ _ _ (sym c.chance-damaged.ensures.answer ∙ c.if-damaged.true));
       state = c.below-further.ensures.state ∙ ap next_state s3;
     }
 

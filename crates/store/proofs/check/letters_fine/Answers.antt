@@ -10,7 +10,7 @@ loop-k-init c = (refl, omega arith, omega arith)
 pub loop-k-preserved : goal.loop-k-preserved
 loop-k-preserved c =
     let w = c.loop-k.invariant in
-    sums_more c.args.store.now c.args.at c.loop-k.k c.loop-k.low c.loop-k.high c.min-low.result (omega (arith, c.type-inv.store (c.args.at + c.loop-k.k))) w.1 w.2 c.min-low.ensures w.0
+    sums_more c.args.store.now c.args.at c.loop-k.k c.loop-k.low c.loop-k.high c.min-low.result (omega (arith, c.type_inv.store (c.args.at + c.loop-k.k))) w.1 w.2 c.min-low.ensures w.0
 
 pub returns : goal.returns
 returns c =

@@ -10,17 +10,17 @@ pub loop-slot-init : goal.loop-slot-init
 loop-slot-init c = (λ k h. absurd (omega arith), lists_none c.args.store.now, refl)
 
 pub bounds-store-slot : goal.bounds-store-slot
-bounds-store-slot c = omega (arith, slot_whole c.args.store.now c.loop-slot.slot (sym c.if-not-slot-fine.ensures))
+bounds-store-slot c = omega (arith, slot_whole c.args.store.now c.loop-slot.slot (sym c.if-not-slot_fine.ensures))
 
-pub overflow-cast-entries : goal.overflow-cast-entries
-overflow-cast-entries c = omega (arith, slot_few c.args.store.now c.loop-slot.slot (sym c.if-not-slot-fine.ensures))
+pub overflow_cast-entries : goal.overflow_cast-entries
+overflow_cast-entries c = omega (arith, slot_few c.args.store.now c.loop-slot.slot (sym c.if-not-slot_fine.ensures))
 
 pub bounds-store-slot-then-store-slot-eq-TAKEN : goal.bounds-store-slot-then-store-slot-eq-TAKEN
-bounds-store-slot-then-store-slot-eq-TAKEN c = omega (arith, slot_whole c.args.store.now c.loop-slot.slot (sym c.if-not-slot-fine.ensures))
+bounds-store-slot-then-store-slot-eq-TAKEN c = omega (arith, slot_whole c.args.store.now c.loop-slot.slot (sym c.if-not-slot_fine.ensures))
 
 pub loop-slot-preserved : goal.loop-slot-preserved
 loop-slot-preserved c =
-    let fine = sym c.if-not-slot-fine.ensures in
+    let fine = sym c.if-not-slot_fine.ensures in
     let before = c.loop-slot.invariant in
     let small : number_at c.args.store.now c.loop-slot.slot < 256 = search rules in
     let few = slot_few c.args.store.now c.loop-slot.slot fine in
@@ -41,10 +41,10 @@ loop-slot-preserved c =
 
 pub returns : goal.returns
 returns c =
-    let fine = all_fine c.args.store.now c.slot-count-slot-end.result c.slot-count-slot-end.ensures (λ i h. c.loop-slot.invariant.0 i (omega arith)) in (
+    let fine = all_fine c.args.store.now c.slot_count-slot-end.result c.slot_count-slot-end.ensures (λ i h. c.loop-slot.invariant.0 i (omega arith)) in (
       fine,
       record {
-        pages = subst (λ k. ListsBelow c.args.store.now c.new.result.entries k) (omega (arith, c.slot-count-slot-end.ensures, whole_slots c.args.store.now fine)) (subst (λ t. ListsBelow c.args.store.now t c.loop-slot.slot) (sym c.new.ensures.slots) c.loop-slot.invariant.1);
+        pages = subst (λ k. ListsBelow c.args.store.now c.new.result.entries k) (omega (arith, c.slot_count-slot-end.ensures, whole_slots c.args.store.now fine)) (subst (λ t. ListsBelow c.args.store.now t c.loop-slot.slot) (sym c.new.ensures.slots) c.loop-slot.invariant.1);
         taken = λ k h. absurd (omega (arith, c.new.ensures.taken));
       },
     )

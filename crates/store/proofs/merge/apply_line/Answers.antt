@@ -4,19 +4,19 @@ use Rattle.store.specs.Layout.{slots}
 use Rattle.store.proofs.Applying.{applied, lists_merged}
 use Rattle.store.proofs.merge.apply_line.Goals as goal
 
-pub merge-line-requires : goal.merge-line-requires
-merge-line-requires c =
-    let w = c.in-ok-slot.ensures.slot.within in
+pub merge_line-requires : goal.merge_line-requires
+merge_line-requires c =
+    let w = c.in_ok-slot.ensures.slot.within in
     let l = readable_parts c.args.line.now c.requires.header.readable in
-    record { row = omega (arith, w, l.row, c.requires.header.row, c.claim-slot.auto.store); line = l.long }
+    record { row = omega (arith, w, l.row, c.requires.header.row, c.claim_slot.auto.store); line = l.long }
 
 pub returns : goal.returns
 returns c =
-    let w = c.in-ok-slot.ensures in
-    let within : c.in-ok-slot.slot < slots c.claim-slot.new.store = omega (arith, w.slot.within, c.claim-slot.auto.store) in
+    let w = c.in_ok-slot.ensures in
+    let within : c.in_ok-slot.slot < slots c.claim_slot.new.store = omega (arith, w.slot.within, c.claim_slot.auto.store) in
     record {
-      applied = applied c.args.store.now c.claim-slot.new.store c.merge-line.new.store c.args.line.now c.in-ok-slot.slot c.args.header c.requires.header (λ k. omega (arith, c.type-inv.line k))
-          w.formed c.claim-slot.auto.store c.merge-line.auto.store w.slot c.merge-line.ensures;
-      lists = lists_merged c.claim-slot.new.store c.merge-line.new.store c.args.line.now c.claim-slot.new.self c.in-ok-slot.slot c.args.header c.requires.header (λ k. omega (arith, c.type-inv.line k))
-          within c.merge-line.auto.store c.merge-line.ensures w.lists;
+      applied = applied c.args.store.now c.claim_slot.new.store c.merge_line.new.store c.args.line.now c.in_ok-slot.slot c.args.header c.requires.header (λ k. omega (arith, c.type_inv.line k))
+          w.formed c.claim_slot.auto.store c.merge_line.auto.store w.slot c.merge_line.ensures;
+      lists = lists_merged c.claim_slot.new.store c.merge_line.new.store c.args.line.now c.claim_slot.new.self c.in_ok-slot.slot c.args.header c.requires.header (λ k. omega (arith, c.type_inv.line k))
+          within c.merge_line.auto.store c.merge_line.ensures w.lists;
     }

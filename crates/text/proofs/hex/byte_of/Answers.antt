@@ -3,8 +3,8 @@ use Rattle.text.proofs.hex.byte_of.Goals as goal
 
 pub returns-then-low-lt-RADIX : goal.returns-then-low-lt-RADIX
 returns-then-low-lt-RADIX c =
-    is_byte _ _ _ _ c.digit-value-high.ensures c.digit-value-low.ensures c.if-high-lt-RADIX.true c.if-low-lt-RADIX.true
+    is_byte _ _ _ _ c.digit_value-high.ensures c.digit_value-low.ensures c.if-high-lt-RADIX.true c.if-low-lt-RADIX.true
 
 pub returns-else-high-lt-RADIX : goal.returns-else-high-lt-RADIX
 returns-else-high-lt-RADIX c =
-    no_byte _ _ _ _ c.digit-value-high.ensures c.digit-value-low.ensures c.else-high-lt-RADIX.either
+    no_byte _ _ _ _ c.digit_value-high.ensures c.digit_value-low.ensures c.else-high-lt-RADIX.either

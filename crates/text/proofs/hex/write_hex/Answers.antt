@@ -34,32 +34,32 @@ spaced c =
       }
     ]
 
-pub returns-in-err-reserve : goal.returns-in-err-reserve
-returns-in-err-reserve c =
-    let p = err_from_is_err_and c.from-residual.result c.from-residual.ensures.1 in
+pub returns-in_err-reserve : goal.returns-in_err-reserve
+returns-in_err-reserve c =
+    let p = err_from_is_err_and c.from_residual.result c.from_residual.ensures.1 in
     rw p.1 (record {
       written = c.reserve.ensures.bytes;
-      room = λ h. absurd (omega (arith, c.in-err-reserve.ensures.cases));
+      room = λ h. absurd (omega (arith, c.in_err-reserve.ensures.cases));
       law = written_is_read;
     })
 
 pub loop-i-init : goal.loop-i-init
 unfolding hex_text
-loop-i-init c = (sym (append-nil _), omega (arith, c.in-ok-reserve.ensures.cases))
+loop-i-init c = (sym (append-nil _), omega (arith, c.in_ok-reserve.ensures.cases))
 
 pub push-requires : goal.push-requires
 push-requires c = omega (arith, ap length blank_text)
 
-pub write-byte-requires : goal.write-byte-requires
-write-byte-requires c =
-    let space = spaced (goal.at.write-byte-requires c).Joined-i-gt0 in
+pub write_byte-requires : goal.write_byte-requires
+write_byte-requires c =
+    let space = spaced (goal.at.write_byte-requires c).Joined-i-gt0 in
     omega (arith, space.len, space.capacity)
 
 pub loop-i-preserved : goal.loop-i-preserved
 loop-i-preserved c =
     let space = spaced (goal.at.loop-i-preserved c).Joined-i-gt0 in (
-      c.write-byte.ensures.bytes ∙ ap (λ t. t ++ hex_byte (get_or c.args.bytes.now c.loop-i.i 0)) (space.bytes ∙ ap (λ t. t ++ gap c.loop-i.i) c.loop-i.invariant.0) ∙ text_more (string_bytes c.reserve.new.text) c.args.bytes.now c.loop-i.i c.loop-i-test.true,
-      omega (arith, space.len, space.capacity, c.write-byte.ensures.len, c.write-byte.ensures.capacity),
+      c.write_byte.ensures.bytes ∙ ap (λ t. t ++ hex_byte (get_or c.args.bytes.now c.loop-i.i 0)) (space.bytes ∙ ap (λ t. t ++ gap c.loop-i.i) c.loop-i.invariant.0) ∙ text_more (string_bytes c.reserve.new.text) c.args.bytes.now c.loop-i.i c.loop-i-test.true,
+      omega (arith, space.len, space.capacity, c.write_byte.ensures.len, c.write_byte.ensures.capacity),
     )
 
 pub returns : goal.returns

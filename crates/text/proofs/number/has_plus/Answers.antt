@@ -2,5 +2,5 @@ use Rattle.std.proofs.Common.{rules}
 use Rattle.text.proofs.Numbers.{front_of_none}
 use Rattle.text.proofs.number.has_plus.Goals as goal
 
-pub returns-else-not-is-empty : goal.returns-else-not-is-empty
-returns-else-not-is-empty c = search (rules, front_of_none c.args.word.now)
+pub returns-else-not-is_empty : goal.returns-else-not-is_empty
+returns-else-not-is_empty c = search (rules, front_of_none c.args.word.now)

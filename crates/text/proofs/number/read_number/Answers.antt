@@ -4,20 +4,20 @@ use Rattle.text.proofs.Numbers.{none_at_plus, none_unparsed, parsed, some_at, no
 use Rattle.text.proofs.number.read_number.Goals as goal
 use Rattle.text.proofs.number.read_number.Goals.{else-least-number-via-then-least-number+else-number-greatest, else-least-number-via-else-least-number}
 
-pub returns-then-has-plus : goal.returns-then-has-plus
-returns-then-has-plus c =
+pub returns-then-has_plus : goal.returns-then-has_plus
+returns-then-has_plus c =
     record {
       value = sym (none_at_plus c.args.least c.args.greatest c.args.word.now
-          (begins_with_plus c.args.word.now c.as-bytes.result.now c.has-plus.result c.as-bytes.ensures.value c.has-plus.ensures c.if-has-plus.true));
+          (begins_with_plus c.args.word.now c.as_bytes.result.now c.has_plus.result c.as_bytes.ensures.value c.has_plus.ensures c.if-has_plus.true));
       bound = tt;
     }
 
-pub returns-in-default : goal.returns-in-default
-returns-in-default c =
+pub returns-in_default : goal.returns-in_default
+returns-in_default c =
     record {
-      value = none_unparsed c.args.least c.args.greatest c.in-default.field-0 c.args.word.now c.parse.result c.parse.ensures.value.0
-          (begins_plainly c.args.word.now c.as-bytes.result.now c.has-plus.result c.as-bytes.ensures.value c.has-plus.ensures c.if-has-plus.false)
-          (omega (arith, c.ranges.greatest.fits)) c.in-default.is;
+      value = none_unparsed c.args.least c.args.greatest c.in_default.field-0 c.args.word.now c.parse.result c.parse.ensures.value.0
+          (begins_plainly c.args.word.now c.as_bytes.result.now c.has_plus.result c.as_bytes.ensures.value c.has_plus.ensures c.if-has_plus.false)
+          (omega (arith, c.ranges.greatest.fits)) c.in_default.is;
       bound = tt;
     }
 
@@ -26,7 +26,7 @@ returns-then-number-greatest c =
     record {
       value = some_at c.args.least c.args.greatest c.in-Ok.number c.args.word.now
           (parsed c.in-Ok.number c.args.word.now c.parse.result c.parse.ensures.value.0
-          (begins_plainly c.args.word.now c.as-bytes.result.now c.has-plus.result c.as-bytes.ensures.value c.has-plus.ensures c.if-has-plus.false)
+          (begins_plainly c.args.word.now c.as_bytes.result.now c.has_plus.result c.as_bytes.ensures.value c.has_plus.ensures c.if-has_plus.false)
           c.in-Ok.is) c.if-least-number.true c.if-number-greatest.true;
       bound = (c.if-least-number.true, c.if-number-greatest.true);
     }
@@ -36,7 +36,7 @@ returns-else-least-number c =
     record {
       value = none_outside c.args.least c.args.greatest c.in-Ok.number c.args.word.now
           (parsed c.in-Ok.number c.args.word.now c.parse.result c.parse.ensures.value.0
-          (begins_plainly c.args.word.now c.as-bytes.result.now c.has-plus.result c.as-bytes.ensures.value c.has-plus.ensures c.if-has-plus.false)
+          (begins_plainly c.args.word.now c.as_bytes.result.now c.has_plus.result c.as_bytes.ensures.value c.has_plus.ensures c.if-has_plus.false)
           c.in-Ok.is)
           (λ above below. elim c.else-least-number.branch [
             | else-least-number-via-then-least-number+else-number-greatest w ↦ omega (arith, w.if-number-greatest.false)

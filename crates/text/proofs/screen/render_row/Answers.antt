@@ -6,7 +6,7 @@ use Rattle.text.proofs.ScreenSigns.{sign_width, shown_none, shown_more}
 use Rattle.text.proofs.screen.render_row.Goals as goal
 
 pub loop-letter-init : goal.loop-letter-init
-loop-letter-init c = (shown_none _, omega (arith, c.in-ok-reserve.ensures.cases))
+loop-letter-init c = (shown_none _, omega (arith, c.in_ok-reserve.ensures.cases))
 
 pub push-requires : goal.push-requires
 push-requires c = omega (arith, sign_width _ c.sign.result c.sign.ensures.value)

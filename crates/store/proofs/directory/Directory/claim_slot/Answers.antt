@@ -22,17 +22,17 @@ returns-else-store-slot c =
     let w = listed_found _ _ _ _ c.requires.lists (omega arith) c.in-Some.ensures in
     record { slot = claimed_kept _ _ _ _ c.requires.formed w c.if-store-slot.false; formed = c.requires.formed; lists = c.requires.lists }
 
-pub overflow-cast-self : goal.overflow-cast-self
-overflow-cast-self c = omega (arith, c.in-ok-slot.ensures.slot.within, (formed c.args.store.now c.requires.formed).few)
+pub overflow_cast-self : goal.overflow_cast-self
+overflow_cast-self c = omega (arith, c.in_ok-slot.ensures.slot.within, (formed c.args.store.now c.requires.formed).few)
 
 pub returns : goal.returns
 returns c =
-    let absent : (k : ℕ) → k < slots c.args.store.now → holds c.args.store.now c.args.page k ≡ false = (c.requires.lists.pages c.args.page (omega arith)).absent c.in-default.ensures in
-    let w = c.in-ok-slot.ensures in
+    let absent : (k : ℕ) → k < slots c.args.store.now → holds c.args.store.now c.args.page k ≡ false = (c.requires.lists.pages c.args.page (omega arith)).absent c.in_default.ensures in
+    let w = c.in_ok-slot.ensures in
     let free = w.slot in
     let b = c.begin-2.ensures in
-    let few : c.in-ok-slot.slot < 255 = omega (arith, free.within, (formed c.args.store.now c.requires.formed).few) in
-    let wide : length c.free-slot.new.self.entries ≡ 256 = search rules in
+    let few : c.in_ok-slot.slot < 255 = omega (arith, free.within, (formed c.args.store.now c.requires.formed).few) in
+    let wide : length c.free_slot.new.self.entries ≡ 256 = search rules in
     record {
       slot = claimed_free _ _ _ _ _ absent free b;
       formed = begun_formed _ _ _ _ _ c.requires.formed free.within c.begin-2.auto.store (λ j hj ne. absent j hj) b;
