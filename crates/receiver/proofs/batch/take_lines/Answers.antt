@@ -7,14 +7,14 @@ use Rattle.receiver.proofs.batch.take_lines.Goals as goal
 pub returns-then-lines-ne0 : goal.returns-then-lines-ne0
 returns-then-lines-ne0 c = record { refused = omega arith; number = sym (cut_lines c.args.lines.now c.args.store.now c.if-lines-ne0.true); same = refl; count = refl }
 
-pub returns-in-default : goal.returns-in-default
-returns-in-default c =
-    let e = faulty_store c.args.lines.now c.args.store.now c.if-lines-ne0.false (faulty c.args.store.now _ c.in-default.ensures) in
+pub returns-in_default : goal.returns-in_default
+returns-in_default c =
+    let e = faulty_store c.args.lines.now c.args.store.now c.if-lines-ne0.false (faulty c.args.store.now _ c.in_default.ensures) in
     record { refused = omega arith; number = sym e; same = refl; count = refl }
 
 pub returns : goal.returns
 returns c =
-    let w = c.take-each.ensures.taken in
+    let w = c.take_each.ensures.taken in
     record {
       accepted = accepted_lines c.args.lines.now c.args.store.now c.if-lines-ne0.false c.in-Ok.ensures.0;
       answers = w.answers;

@@ -11,7 +11,7 @@ loop-k-init c = (taken_none _ _ _, c.requires.formed, c.requires.lists, λ _. re
 pub loop-k-preserved : goal.loop-k-preserved
 loop-k-preserved c =
     let w = c.loop-k.invariant in
-    let a = c.take-one-done.ensures in
+    let a = c.take_one-done.ensures in
     let bytes = c.args.lines.now in (
       taken_more bytes _ _ _ _ _ _ _ _ _ (omega arith) w.0 a.answer c.count-total.ensures,
       still_formed (stepped _ _ _ _ w.1 a.answer) w.1,
@@ -19,8 +19,8 @@ loop-k-preserved c =
       λ none. absurd (omega (arith, none)),
       λ long one.
           let first : c.loop-k.k ≡ 0 = omega (arith, one) in
-          subst (λ s. Answers bytes s c.take-one-done.result c.take-one-done.new.store) (w.3 first)
-          (subst (λ l. Answers l c.loop-k.store c.take-one-done.result c.take-one-done.new.store) (one_line bytes c.loop-k.k _ long first (omega arith)) a.answer),
+          subst (λ s. Answers bytes s c.take_one-done.result c.take_one-done.new.store) (w.3 first)
+          (subst (λ l. Answers l c.loop-k.store c.take_one-done.result c.take_one-done.new.store) (one_line bytes c.loop-k.k _ long first (omega arith)) a.answer),
     )
 
 pub returns : goal.returns

@@ -3,21 +3,21 @@ use Rattle.store.specs.Slots.{NoRoom}
 use Rattle.receiver.proofs.Steps.{not_refused}
 use Rattle.receiver.proofs.checked.take_one.Goals as goal
 
-pub returns-in-default : goal.returns-in-default
-returns-in-default c =
+pub returns-in_default : goal.returns-in_default
+returns-in_default c =
     record {
-      answer = record { number = sym (not_refused c.args.line.now c.args.store.now c.requires.long c.requires.formed); says = record { unreadable = c.in-default.ensures.header; same = refl } };
+      answer = record { number = sym (not_refused c.args.line.now c.args.store.now c.requires.long c.requires.formed); says = record { unreadable = c.in_default.ensures.header; same = refl } };
       lists = c.requires.lists;
     }
 
-pub returns-in-Some-apply-line : goal.returns-in-Some-apply-line
-returns-in-Some-apply-line c =
+pub returns-in-Some-apply_line : goal.returns-in-Some-apply_line
+returns-in-Some-apply_line c =
     record {
       answer = record {
         number = sym (not_refused c.args.line.now c.args.store.now c.requires.long c.requires.formed);
-        says = record { readable = c.in-Some.ensures.header.readable; applied = c.in-Some-apply-line.ensures.applied };
+        says = record { readable = c.in-Some.ensures.header.readable; applied = c.in-Some-apply_line.ensures.applied };
       };
-      lists = c.in-Some-apply-line.ensures.lists;
+      lists = c.in-Some-apply_line.ensures.lists;
     }
 
 pub returns-in-None : goal.returns-in-None

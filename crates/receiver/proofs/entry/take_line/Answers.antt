@@ -6,10 +6,10 @@ use Rattle.receiver.proofs.entry.take_line.Goals as goal
 pub returns-then-line-ne-LENGTH : goal.returns-then-line-ne-LENGTH
 returns-then-line-ne-LENGTH c = let e = refused_line c.args.line.now c.args.store.now c.if-line-ne-LENGTH.true in record { number = sym e; says = record { refused = omega (arith, e); same = refl } }
 
-pub returns-in-default : goal.returns-in-default
-returns-in-default c =
-    let e = refused_store c.args.line.now c.args.store.now c.if-line-ne-LENGTH.false (faulty c.args.store.now _ c.in-default.ensures) in
+pub returns-in_default : goal.returns-in_default
+returns-in_default c =
+    let e = refused_store c.args.line.now c.args.store.now c.if-line-ne-LENGTH.false (faulty c.args.store.now _ c.in_default.ensures) in
     record { number = sym e; says = record { refused = omega (arith, e); same = refl } }
 
 pub returns : goal.returns
-returns c = c.take-each.ensures.single c.if-line-ne-LENGTH.false
+returns c = c.take_each.ensures.single c.if-line-ne-LENGTH.false

@@ -8,7 +8,7 @@ use Rattle.text.proofs.hex.fill.Goals.{then-i-line, else-i-line, After-byte_of}
 -- the second digit, or a blank behind the line's end
 low_is : (c : After-byte_of) → c.if-i-line.low ≡ get_or c.args.line.now (c.loop-i.i + 1) blank
 low_is c =
-    elim c.if-i-line.branch [ then-i-line w ↦ w.low_is ∙ get_or_default _ _ 0 blank w.if-i-line.true | else-i-line w ↦ w.low_is ∙ sym (get_or_past _ _ blank w.if-i-line.false) ]
+    elim c.if-i-line.branch [ then-i-line w ↦ w.low-is ∙ get_or_default _ _ 0 blank w.if-i-line.true | else-i-line w ↦ w.low-is ∙ sym (get_or_past _ _ blank w.if-i-line.false) ]
 
 pub loop-i-preserved-then-line-i-eq-BLANK : goal.loop-i-preserved-then-line-i-eq-BLANK
 loop-i-preserved-then-line-i-eq-BLANK c = (

@@ -8,5 +8,5 @@ returns-in-len1-up c = search (rules, trimmed)
 pub returns-in_default : goal.returns-in_default
 returns-in_default c = search (rules, untrimmed_empty)
 
-pub returns-in_default·2 : goal.returns-in_default·2
-returns-in_default·2 c = search (rules, untrimmed)
+pub returns-in_default-2 : goal.returns-in_default-2
+returns-in_default-2 c = search (rules, untrimmed)
