@@ -3,8 +3,8 @@ use Rattle.bridge.specs.Numbers.{took, refused}
 use Rattle.bridge.proofs.Parts.{lines_refusal_small}
 use Rattle.bridge.proofs.lines.demborugy_take_lines.Goals as goal
 
-pub overflow-add-answer : goal.overflow-add-answer
-overflow-add-answer c = let w = c.in-Err.ensures in omega (arith, w.number, lines_refusal_small c.args.lines.now c.args.store.now)
+pub overflow_add-answer : goal.overflow_add-answer
+overflow_add-answer c = let w = c.in-Err.ensures in omega (arith, w.number, lines_refusal_small c.args.lines.now c.args.store.now)
 
 pub returns-in-Ok : goal.returns-in-Ok
 returns-in-Ok c = took _ _ c.in-Ok.ensures

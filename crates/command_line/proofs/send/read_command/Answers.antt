@@ -11,42 +11,42 @@ returns-then-eq c =
     let k = c.loop-at.rounds in
     let w = string_bytes c.index-words-at.result in
     first-left (asked_behind k) string_bytes c.args.words.now c.loop-at.at c.index-words-at.result _ c.loop-at.invariant c.index-words-at.is c.loop-at-test.true
-    ∙ at_help k w _ (is_word c.eq.result c.as-str-word.result.now w _ c.as-str-word.ensures.value c.eq.ensures c.if-eq.true)
+    ∙ at_help k w _ (is_word c.eq.result c.as_str-word.result.now w _ c.as_str-word.ensures.value c.eq.ensures c.if-eq.true)
 
 pub returns-then-words-at-lt2 : goal.returns-then-words-at-lt2
 returns-then-words-at-lt2 c =
     let k = c.loop-at.rounds in
     let w = string_bytes c.index-words-at.result in
     last-left (asked_behind k) string_bytes c.args.words.now c.loop-at.at c.index-words-at.result _ c.loop-at.invariant c.index-words-at.is c.loop-at-test.true (omega (arith, c.if-words-at-lt2.true))
-    ∙ at_last k w (not_word c.eq.result c.as-str-word.result.now w _ c.as-str-word.ensures.value c.eq.ensures c.if-eq.false)
+    ∙ at_last k w (not_word c.eq.result c.as_str-word.result.now w _ c.as_str-word.ensures.value c.eq.ensures c.if-eq.false)
 
 pub returns-else-eq-2 : goal.returns-else-eq-2
 returns-else-eq-2 c =
     let k = c.loop-at.rounds in
     let w = string_bytes c.index-words-at.result in
     first-left (asked_behind k) string_bytes c.args.words.now c.loop-at.at c.index-words-at.result _ c.loop-at.invariant c.index-words-at.is c.loop-at-test.true
-    ∙ at_other k w _ (not_word c.eq.result c.as-str-word.result.now w _ c.as-str-word.ensures.value c.eq.ensures c.if-eq.false)
-    (not_word c.eq-in-loop-at.result c.as-str-word.result.now w _ c.as-str-word.ensures.value c.eq-in-loop-at.ensures c.if-eq-2.false)
+    ∙ at_other k w _ (not_word c.eq.result c.as_str-word.result.now w _ c.as_str-word.ensures.value c.eq.ensures c.if-eq.false)
+    (not_word c.eq-in-loop-at.result c.as_str-word.result.now w _ c.as_str-word.ensures.value c.eq-in-loop-at.ensures c.if-eq-2.false)
 
-pub returns-in-default : goal.returns-in-default
-returns-in-default c =
+pub returns-in_default : goal.returns-in_default
+returns-in_default c =
     let k = c.loop-at.rounds in
     let w = string_bytes c.index-words-at.result in
     two-left (asked_behind k) string_bytes c.args.words.now c.loop-at.at c.index-words-at.result _ c.loop-at.invariant c.index-words-at.is c.index-words-at-then-eq-2.result (omega (arith, c.if-words-at-lt2.false)) c.index-words-at-then-eq-2.is
-    ∙ at_rounds k w _ _ (not_word c.eq.result c.as-str-word.result.now w _ c.as-str-word.ensures.value c.eq.ensures c.if-eq.false)
-    (is_word c.eq-in-loop-at.result c.as-str-word.result.now w _ c.as-str-word.ensures.value c.eq-in-loop-at.ensures c.if-eq-2.true)
-    ∙ with_none _ _ (ap (first_rounds k) (sym c.as-str.ensures.value) ∙ sym c.first_rounds.ensures ∙ c.in-default.is)
+    ∙ at_rounds k w _ _ (not_word c.eq.result c.as_str-word.result.now w _ c.as_str-word.ensures.value c.eq.ensures c.if-eq.false)
+    (is_word c.eq-in-loop-at.result c.as_str-word.result.now w _ c.as_str-word.ensures.value c.eq-in-loop-at.ensures c.if-eq-2.true)
+    ∙ with_none _ _ (ap (first_rounds k) (sym c.as_str.ensures.value) ∙ sym c.first_rounds.ensures ∙ c.in_default.is)
 
 pub loop-at-preserved : goal.loop-at-preserved
 loop-at-preserved c =
     let k = c.loop-at.rounds in
     let w = string_bytes c.index-words-at.result in
     sym (two-left (asked_behind k) string_bytes c.args.words.now c.loop-at.at c.index-words-at.result _ c.loop-at.invariant c.index-words-at.is c.index-words-at-then-eq-2.result (omega (arith, c.if-words-at-lt2.false)) c.index-words-at-then-eq-2.is
-    ∙ at_rounds k w _ _ (not_word c.eq.result c.as-str-word.result.now w _ c.as-str-word.ensures.value c.eq.ensures c.if-eq.false)
-    (is_word c.eq-in-loop-at.result c.as-str-word.result.now w _ c.as-str-word.ensures.value c.eq-in-loop-at.ensures c.if-eq-2.true)
-    ∙ with_some _ _ _ (ap (first_rounds k) (sym c.as-str.ensures.value) ∙ sym c.first_rounds.ensures ∙ c.in-Some.is))
+    ∙ at_rounds k w _ _ (not_word c.eq.result c.as_str-word.result.now w _ c.as_str-word.ensures.value c.eq.ensures c.if-eq.false)
+    (is_word c.eq-in-loop-at.result c.as_str-word.result.now w _ c.as_str-word.ensures.value c.eq-in-loop-at.ensures c.if-eq-2.true)
+    ∙ with_some _ _ _ (ap (first_rounds k) (sym c.as_str.ensures.value) ∙ sym c.first_rounds.ensures ∙ c.in-Some.is))
 
 pub returns : goal.returns
 returns c =
     sym c.loop-at.invariant ∙ at_end string_bytes c.loop-at.rounds c.args.words.now c.loop-at.at (omega (arith, c.loop-at-test.false))
-    ∙ ap send (sym c.unwrap-or.ensures)
+    ∙ ap send (sym c.unwrap_or.ensures)

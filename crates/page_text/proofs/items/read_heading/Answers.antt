@@ -3,22 +3,22 @@ use Rattle.std.proofs.lemmas.Bool.{cond-true, cond-false}
 use Rattle.page_text.proofs.LineItems.{heading-first, heading-page, heading-second, heading-version, heading-end}
 use Rattle.page_text.proofs.items.read_heading.Goals as goal
 
-pub returns-in-err-first : goal.returns-in-err-first
-returns-in-err-first c = rw c.from-residual.ensures (heading-first c.args.line.now c.in-err-first.ensures)
+pub returns-in_err-first : goal.returns-in_err-first
+returns-in_err-first c = rw c.from_residual.ensures (heading-first c.args.line.now c.in_err-first.ensures)
 
-pub returns-in-err-page : goal.returns-in-err-page
-returns-in-err-page c = rw c.from-residual-in-err-page.ensures (heading-page c.args.line.now _ c.in-ok-first.ensures c.in-err-page.ensures)
+pub returns-in_err-page : goal.returns-in_err-page
+returns-in_err-page c = rw c.from_residual-in_err-page.ensures (heading-page c.args.line.now _ c.in_ok-first.ensures c.in_err-page.ensures)
 
-pub returns-in-err-second : goal.returns-in-err-second
-returns-in-err-second c = rw c.from-residual-in-err-second.ensures (heading-second c.args.line.now _ _ _ c.in-ok-first.ensures c.in-ok-page.ensures c.in-err-second.ensures)
+pub returns-in_err-second : goal.returns-in_err-second
+returns-in_err-second c = rw c.from_residual-in_err-second.ensures (heading-second c.args.line.now _ _ _ c.in_ok-first.ensures c.in_ok-page.ensures c.in_err-second.ensures)
 
-pub returns-in-err-version : goal.returns-in-err-version
-returns-in-err-version c = rw c.from-residual-in-err-version.ensures (heading-version c.args.line.now _ _ _ _ c.in-ok-first.ensures c.in-ok-page.ensures c.in-ok-second.ensures c.in-err-version.ensures)
+pub returns-in_err-version : goal.returns-in_err-version
+returns-in_err-version c = rw c.from_residual-in_err-version.ensures (heading-version c.args.line.now _ _ _ _ c.in_ok-first.ensures c.in_ok-page.ensures c.in_ok-second.ensures c.in_err-version.ensures)
 
-pub returns-then-not-is-empty : goal.returns-then-not-is-empty
-returns-then-not-is-empty c =
-    heading-end c.args.line.now _ _ _ _ _ _ c.in-ok-first.ensures c.in-ok-page.ensures c.in-ok-second.ensures c.in-ok-version.ensures ∙ cond-false _ _ _ (sym c.if-not-is-empty.ensures)
+pub returns-then-not-is_empty : goal.returns-then-not-is_empty
+returns-then-not-is_empty c =
+    heading-end c.args.line.now _ _ _ _ _ _ c.in_ok-first.ensures c.in_ok-page.ensures c.in_ok-second.ensures c.in_ok-version.ensures ∙ cond-false _ _ _ (sym c.if-not-is_empty.ensures)
 
 pub returns : goal.returns
 returns c =
-    heading-end c.args.line.now _ _ _ _ _ _ c.in-ok-first.ensures c.in-ok-page.ensures c.in-ok-second.ensures c.in-ok-version.ensures ∙ cond-true _ _ _ (sym c.if-not-is-empty.ensures)
+    heading-end c.args.line.now _ _ _ _ _ _ c.in_ok-first.ensures c.in_ok-page.ensures c.in_ok-second.ensures c.in_ok-version.ensures ∙ cond-true _ _ _ (sym c.if-not-is_empty.ensures)

@@ -16,27 +16,27 @@ loop-rest-init c = (ap (λ s. read_lines 0 s (lines_of c.args.text.now)) c.new-d
 left : (n : ℕ) → false ≡ eqb n 0 → 0 < n
 left n e = ⊎_elim (λ (h : 0 < n). h) (λ (h : n ≤ 0). absurd (eqb-false n 0 (sym e) (omega arith))) (cases_lt 0 n)
 
-pub returns-in-err-take-line : goal.returns-in-err-take-line
-returns-in-err-take-line c =
-    let p = err_from_is_err_and c.from-residual.result c.from-residual.ensures.1 in
+pub returns-in_err-take_line : goal.returns-in_err-take_line
+returns-in_err-take_line c =
+    let p = err_from_is_err_and c.from_residual.result c.from_residual.ensures.1 in
     let s = reading c.loop-rest.draft in
     record {
-      outcome = rw (p.1, p.2) (tells c.in-err-take-line.field-0.0 _ c.loop-rest.draft c.take-line.new.self c.loop-rest.place (read_text c.args.text.now) c.in-err-take-line.ensures
-          (λ none. sym c.loop-rest.invariant.0 ∙ read-refused c.loop-rest.place s c.loop-rest.rest.now c.first-line-first.result.line.now (left _ c.loop-rest-test.ensures) c.first-line-first.ensures.line
-          (ap (λ l. read_on (what_says l) s) (sym c.trim-return.ensures) ∙ none)));
+      outcome = rw (p.1, p.2) (tells c.in_err-take_line.field-0.0 _ c.loop-rest.draft c.take_line.new.self c.loop-rest.place (read_text c.args.text.now) c.in_err-take_line.ensures
+          (λ none. sym c.loop-rest.invariant.0 ∙ read-refused c.loop-rest.place s c.loop-rest.rest.now c.first_line-first.result.line.now (left _ c.loop-rest-test.ensures) c.first_line-first.ensures.line
+          (ap (λ l. read_on (what_says l) s) (sym c.trim_return.ensures) ∙ none)));
       sound = rw p.1 tt;
       laws = (pages_are_sound, refusals_are_first);
     }
 
 pub loop-rest-smaller : goal.loop-rest-smaller
-loop-rest-smaller c = omega (arith, rest_shorter c.loop-rest.rest.now c.first-line-first.result.rest.now (left _ c.loop-rest-test.ensures) c.first-line-first.ensures.rest)
+loop-rest-smaller c = omega (arith, rest_shorter c.loop-rest.rest.now c.first_line-first.result.rest.now (left _ c.loop-rest-test.ensures) c.first_line-first.ensures.rest)
 
 pub loop-rest-preserved : goal.loop-rest-preserved
 loop-rest-preserved c =
     let s = reading c.loop-rest.draft in (
-      sym (read-further c.loop-rest.place s c.loop-rest.rest.now (reading c.take-line.new.self) c.first-line-first.result.line.now c.first-line-first.result.rest.now (left _ c.loop-rest-test.ensures) c.first-line-first.ensures.line c.first-line-first.ensures.rest
-          (ap (λ l. read_on (what_says l) s) (sym c.trim-return.ensures) ∙ c.in-ok-take-line.ensures)) ∙ c.loop-rest.invariant.0,
-      omega (arith, rest_shorter c.loop-rest.rest.now c.first-line-first.result.rest.now (left _ c.loop-rest-test.ensures) c.first-line-first.ensures.rest, c.loop-rest.invariant.1),
+      sym (read-further c.loop-rest.place s c.loop-rest.rest.now (reading c.take_line.new.self) c.first_line-first.result.line.now c.first_line-first.result.rest.now (left _ c.loop-rest-test.ensures) c.first_line-first.ensures.line c.first_line-first.ensures.rest
+          (ap (λ l. read_on (what_says l) s) (sym c.trim_return.ensures) ∙ c.in_ok-take_line.ensures)) ∙ c.loop-rest.invariant.0,
+      omega (arith, rest_shorter c.loop-rest.rest.now c.first_line-first.result.rest.now (left _ c.loop-rest-test.ensures) c.first_line-first.ensures.rest, c.loop-rest.invariant.1),
     )
 
 pub returns : goal.returns

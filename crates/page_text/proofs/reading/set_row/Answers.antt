@@ -6,5 +6,5 @@ pub returns : goal.returns
 returns c = record {
   number = search rules;
   version = search rules;
-  letters = with_row_is c.args.row c.args.letters.now c.args.page.now.letters c.copy-from-slice.new.self (c.copy-from-slice.ensures.after ∙ c.pad-row.ensures);
+  letters = with_row_is c.args.row c.args.letters.now c.args.page.now.letters c.copy_from_slice.new.self (c.copy_from_slice.ensures.after ∙ c.pad_row.ensures);
 }

@@ -12,7 +12,7 @@ pub loop-digit-preserved : goal.loop-digit-preserved
 loop-digit-preserved c =
     let v = c.loop-digit.value in
     let more = value_more c.args.digits.now c.loop-digit.digit-index v c.loop-digit-test.true c.loop-digit.invariant.0 in
-    let digit = c.from.ensures ∙ c.saturating-sub.ensures in
+    let digit = c.from.ensures ∙ c.saturating_sub.ensures in
     (ap (λ d. 10 * v + d) digit ∙ more, (λ h. absurd (omega arith)), (λ h. omega (arith, c.loop-digit.invariant.1 (omega arith))), (λ h. omega (arith, c.loop-digit.invariant.2 (omega arith))))
 
 pub returns : goal.returns

@@ -10,23 +10,23 @@ returns-then-count-eq0 c =
     let g = c.args.greatest in
     let bs = c.args.bytes.now in
     ⊎_elim
-    (λ (h : c.digit-count-count.result ≡ 0). number-empty p g bs (omega (arith, c.digit-count-count.ensures)))
-    (λ h. number-long p g bs (omega (arith, c.digit-count-count.ensures, h.1)))
+    (λ (h : c.digit_count-count.result ≡ 0). number-empty p g bs (omega (arith, c.digit_count-count.ensures)))
+    (λ h. number-long p g bs (omega (arith, c.digit_count-count.ensures, h.1)))
     c.then-count-eq0.either
 
-pub slice-bounds-digits-number-end : goal.slice-bounds-digits-number-end
-slice-bounds-digits-number-end c = omega (arith, prefix_len-le-length is_ascii_digit c.args.bytes.now)
+pub slice_bounds-digits_number-end : goal.slice_bounds-digits_number-end
+slice_bounds-digits_number-end c = omega (arith, prefix_len-le-length is_ascii_digit c.args.bytes.now)
 
 pub returns-then-value-from : goal.returns-then-value-from
 returns-then-value-from c =
-    number-over c.args.places c.args.greatest c.args.bytes.now c.digit-count-count.result c.digits-number-value.result c.digit-count-count.ensures c.digits-number-value.ensures (omega arith)
+    number-over c.args.places c.args.greatest c.args.bytes.now c.digit_count-count.result c.digits_number-value.result c.digit_count-count.ensures c.digits_number-value.ensures (omega arith)
 
-pub slice-bounds-result-count : goal.slice-bounds-result-count
-slice-bounds-result-count c = omega (arith, prefix_len-le-length is_ascii_digit c.args.bytes.now)
+pub slice_bounds-result-count : goal.slice_bounds-result-count
+slice_bounds-result-count c = omega (arith, prefix_len-le-length is_ascii_digit c.args.bytes.now)
 
-pub slice-bounds-result-start : goal.slice-bounds-result-start
-slice-bounds-result-start c = omega (arith, prefix_len-le-length is_ascii_digit c.args.bytes.now)
+pub slice_bounds-result-start : goal.slice_bounds-result-start
+slice_bounds-result-start c = omega (arith, prefix_len-le-length is_ascii_digit c.args.bytes.now)
 
 pub returns : goal.returns
 returns c =
-    number_read c.args.places c.args.greatest c.args.bytes.now c.digit-count-count.result c.digits-number-value.result c.digit-count-count.ensures c.digits-number-value.ensures c.if-count-eq0.false (omega arith) (omega arith)
+    number_read c.args.places c.args.greatest c.args.bytes.now c.digit_count-count.result c.digits_number-value.result c.digit_count-count.ensures c.digits_number-value.ensures c.if-count-eq0.false (omega arith) (omega arith)

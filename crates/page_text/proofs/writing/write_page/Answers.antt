@@ -6,20 +6,20 @@ use Rattle.page_text.proofs.RoundTrip.{written_is_read}
 use Rattle.page_text.proofs.WrittenText.{rows_more}
 use Rattle.page_text.proofs.writing.write_page.Goals as goal
 
-pub returns-in-err-write-heading : goal.returns-in-err-write-heading
-returns-in-err-write-heading c = record { text = IfOk-from_err c.from-residual.result _ c.from-residual.ensures.0; law = written_is_read }
+pub returns-in_err-write_heading : goal.returns-in_err-write_heading
+returns-in_err-write_heading c = record { text = IfOk-from_err c.from_residual.result _ c.from_residual.ensures.0; law = written_is_read }
 
 pub loop-row-init : goal.loop-row-init
 unfolding rows_text
 loop-row-init c =
     let p = c.args.page.now in
-    c.in-ok-write-heading.ensures ∙ ap (λ l. l ++ ended (heading_line p.number p.version)) c.new-out.ensures.items ∙ sym (append-nil (ended (heading_line p.number p.version)))
+    c.in_ok-write_heading.ensures ∙ ap (λ l. l ++ ended (heading_line p.number p.version)) c.new-out.ensures.items ∙ sym (append-nil (ended (heading_line p.number p.version)))
 
 pub loop-row-preserved : goal.loop-row-preserved
-loop-row-preserved c = rows_more c.loop-row.row _ _ _ _ c.loop-row.invariant c.in-ok-write-row.ensures
+loop-row-preserved c = rows_more c.loop-row.row _ _ _ _ c.loop-row.invariant c.in_ok-write_row.ensures
 
-pub returns-in-err-write-row : goal.returns-in-err-write-row
-returns-in-err-write-row c = record { text = IfOk-from_err c.from-residual-in-err-write-row.result _ c.from-residual-in-err-write-row.ensures.0; law = written_is_read }
+pub returns-in_err-write_row : goal.returns-in_err-write_row
+returns-in_err-write_row c = record { text = IfOk-from_err c.from_residual-in_err-write_row.result _ c.from_residual-in_err-write_row.ensures.0; law = written_is_read }
 
 pub returns : goal.returns
 unfolding page_text

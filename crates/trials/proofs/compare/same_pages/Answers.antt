@@ -11,18 +11,18 @@ returns-in-Some c = record {
   letters = λ e. absurd (both_ways false refl e);
 }
 
-pub returns-then-same-slots : goal.returns-then-same-slots
-returns-then-same-slots c =
+pub returns-then-same_slots : goal.returns-then-same_slots
+returns-then-same_slots c =
     let s = c.args.store.now in
     let ref = c.args.reference.now in
-    let held = c.held-pages.result in
-    let same = λ (e : c.same_marks.result ≡ true). same_from s ref held c.in-default.ensures (c.same_slots.ensures.0 c.if-same-slots.true) c.held-pages.ensures (c.same_marks.ensures.0 e) in
-    record { same = (same, λ w. c.same_marks.ensures.1 (same_marks s ref held w c.held-pages.ensures)); letters = λ e. true_letters s ref (same e) }
+    let held = c.held_pages.result in
+    let same = λ (e : c.same_marks.result ≡ true). same_from s ref held c.in_default.ensures (c.same_slots.ensures.0 c.if-same_slots.true) c.held_pages.ensures (c.same_marks.ensures.0 e) in
+    record { same = (same, λ w. c.same_marks.ensures.1 (same_marks s ref held w c.held_pages.ensures)); letters = λ e. true_letters s ref (same e) }
 
-pub returns-else-same-slots : goal.returns-else-same-slots
-returns-else-same-slots c =
+pub returns-else-same_slots : goal.returns-else-same_slots
+returns-else-same_slots c =
     let s = c.args.store.now in
     record {
-      same = (λ e. absurd (both_ways _ c.if-same-slots.false e), λ w. c.same_slots.ensures.1 (λ i h mark. let small : number_at s i < 256 = search rules in same_slot s c.args.reference.now w i h small mark));
-      letters = λ e. absurd (both_ways _ c.if-same-slots.false e);
+      same = (λ e. absurd (both_ways _ c.if-same_slots.false e), λ w. c.same_slots.ensures.1 (λ i h mark. let small : number_at s i < 256 = search rules in same_slot s c.args.reference.now w i h small mark));
+      letters = λ e. absurd (both_ways _ c.if-same_slots.false e);
     }

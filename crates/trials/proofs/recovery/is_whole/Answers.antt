@@ -8,7 +8,7 @@ loop-at-preserved c =
     let stands = c.in-Some.ensures in
     below_more _ _ c.loop-at.invariant
     (shown_letters c.args.store.now c.row.result.now c.args.sent.page c.loop-at.at (text_letter c.args.sent.page c.args.sent.version c.loop-at.at) stands.formed stands.there
-    c.loop-at-test.true c.row.ensures.part (c.whole-row.ensures.0 c.if-not-whole-row.false).letters)
+    c.loop-at-test.true c.row.ensures.part (c.whole_row.ensures.0 c.if-not-whole_row.false).letters)
 
 pub returns : goal.returns
 returns c =

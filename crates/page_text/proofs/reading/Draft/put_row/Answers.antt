@@ -18,4 +18,4 @@ returns-then-count-eq0 c =
 pub returns : goal.returns
 returns c =
     let d = c.args.self.now in
-    row_taken c.args.row.number c.args.row.letters.now (reading d) _ _ c.set-row.new.page (λ h. c.if-count-eq0.false (omega (arith, d.pages.ok.0))) (omega (arith, d.pages.ok.0)) c.if-self-index.false c.index-mut.ensures.value c.set-row.ensures.number c.set-row.ensures.version c.set-row.ensures.letters
+    row_taken c.args.row.number c.args.row.letters.now (reading d) _ _ c.set_row.new.page (λ h. c.if-count-eq0.false (omega (arith, d.pages.ok.0))) (omega (arith, d.pages.ok.0)) c.if-self-index.false c.index_mut.ensures.value c.set_row.ensures.number c.set_row.ensures.version c.set_row.ensures.letters

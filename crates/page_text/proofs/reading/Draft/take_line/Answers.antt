@@ -4,8 +4,8 @@ use Rattle.page_text.specs.Code.{reading}
 use Rattle.page_text.proofs.LineItems.{said_row_fits}
 use Rattle.page_text.proofs.reading.Draft.take_line.Goals as goal
 
-pub put-row-requires : goal.put-row-requires
-put-row-requires c =
+pub put_row-requires : goal.put_row-requires
+put_row-requires c =
     let fits = said_row_fits c.args.line.now c.in-Row.row.number c.in-Row.row.letters.now (sym c.in-Row.ensures) in
     record { within = fits.within; short = fits.short }
 

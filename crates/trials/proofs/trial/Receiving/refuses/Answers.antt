@@ -3,6 +3,6 @@ use Rattle.trials.proofs.trial.Receiving.refuses.Goals as goal
 
 pub returns : goal.returns
 returns c = record {
-  told = c.is-same-2.ensures;
-  kept = λ _. sym (c.as-slice-2.ensures.value ∙ c.in-ok-before.ensures.items ∙ c.as-slice.ensures.value) ∙ c.same-bytes.ensures.0 c.if-not-same-bytes.false ∙ c.as-slice-3.ensures.value;
+  told = c.is_same-2.ensures;
+  kept = λ _. sym (c.as_slice-2.ensures.value ∙ c.in_ok-before.ensures.items ∙ c.as_slice.ensures.value) ∙ c.same_bytes.ensures.0 c.if-not-same_bytes.false ∙ c.as_slice-3.ensures.value;
 }

@@ -9,12 +9,12 @@ pub returns : goal.returns
 returns c =
     let page = c.args.sent.page in
     let answer = c.take-answer.result in
-    let copied = c.as-slice-2.ensures.value ∙ c.in-ok-before.ensures.items ∙ c.as-slice.ensures.value in
+    let copied = c.as_slice-2.ensures.value ∙ c.in_ok-before.ensures.items ∙ c.as_slice.ensures.value in
     record {
-      told = c.is-same.ensures;
+      told = c.is_same.ensures;
       kept = λ _. (
         answer,
         subst (λ (ref : Reference). Due answer (TwoTurned c.args.bits.now) (get_or ref.there page false) ref.count ref.slots) c.receive-done.ensures.reference c.take-answer.ensures.answer,
-        kept_of answer page copied c.as-slice-3.ensures.value (c.keeps-bytes.ensures.0 c.if-not-keeps-bytes.false),
+        kept_of answer page copied c.as_slice-3.ensures.value (c.keeps_bytes.ensures.0 c.if-not-keeps_bytes.false),
       );
     }
