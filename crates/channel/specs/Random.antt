@@ -31,5 +31,5 @@ unfoldable pub drawn_below : (limit s : ℕ) → ℕ
 drawn_below limit s = cond (limit == 0) 0 (drawn s % limit)
 
 -- whether a chance of so many in a thousand comes about in a state
-abbrev pub comes_about : (per-mille s : ℕ) → Bool
-comes_about per-mille s = nat_lt (drawn_below 1000 s) per-mille
+abbrev pub comes_about : (per_mille s : ℕ) → Bool
+comes_about per_mille s = nat_lt (drawn_below 1000 s) per_mille

@@ -75,7 +75,7 @@ apart_test : all_below 16 (λ m. all_below 16 (apart_at m)) ≡ true
 unfolding distance ones_in code_words encode_number apart_at
 apart_test = refl
 
-pub minimum_distance : MinimumDistance 4
+pub minimum_distance : MinimumDistance
 unfolding apart_at
 minimum_distance m n hm hn ne = leb-true _ _ (implied _ _ (below_both 16 16 apart_at apart_test m n hm hn) (not_from_false _ (ne_eqb _ _ ne)))
 

@@ -19,9 +19,9 @@ ReadsWhole b r = (c : ℕ) → is_letter c ≡ true → distance (encode_letter 
 abbrev pub DetectsOne : (b r : ℕ) → Type 0
 DetectsOne b r = (c : ℕ) → is_letter c ≡ true → distance (encode_letter c) b ≡ 1 → r ≡ 0
 
--- any two code words differ in so many bits at least
-abbrev pub MinimumDistance : (least : ℕ) → Type 0
-MinimumDistance least = (m n : ℕ) → m < 16 → n < 16 → (m ≢ n) → least ≤ distance (encode_number m) (encode_number n)
+-- any two code words differ in four bits at least
+abbrev pub MinimumDistance : Type 0
+MinimumDistance = (m n : ℕ) → m < 16 → n < 16 → (m ≢ n) → 4 ≤ distance (encode_number m) (encode_number n)
 
 -- with three bits turned a number is always read as another one
 abbrev pub NumberLimitSharp : Type 0

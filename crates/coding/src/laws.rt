@@ -3,7 +3,7 @@ ghost use Rattle.coding.specs.Laws.{MinimumDistance, NumberLimitSharp, LetterLim
 
 // A function whose contract carries the laws; it answers nothing.
 pub fn code_laws()
-    ensures apart { MinimumDistance 4 }
+    ensures apart { MinimumDistance }
     ensures number_limit { NumberLimitSharp }
     ensures letter_limit { LetterLimitSharp }
     ensures examples { Examples }

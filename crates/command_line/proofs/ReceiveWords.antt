@@ -3,7 +3,7 @@ use Rattle.std.proofs.Common.{◌≡◌, ℕ, ◌+◌, ◌<◌, ◌≤◌, Bool,
 use Rattle.std.proofs.lemmas.List.{drop_all}
 use Rattle.std.proofs.lemmas.Bool.{cond-true, cond-false, both_ways}
 use Rattle.text.proofs.Words.{same_word, other_word}
-use Rattle.command_line.proofs.WordsLeft.{first-left}
+use Rattle.command_line.proofs.WordsLeft.{first_left}
 use Rattle.command_line.specs.declared.receive.Valued.{Valued}
 use Rattle.command_line.specs.Receive.{Asked, Given, help, receive, wrong, named, with_value, with_page, if_given, by_option, asked_behind, GivenMore}
 
@@ -15,7 +15,7 @@ unnamed w no-slots no_store no-follow =
 -- the word at a place, as the text of it
 pub here : {W : Type 0} (f : W → List ℕ) (o : Option Valued) (g : Given) (ws : List W) (at : ℕ) (x : W) (text : List ℕ) (a : Asked) → asked_behind o g (map f (drop at ws)) ≡ a → at < length ws → x ≡ get_or ws at x → text ≡ f x → a ≡ asked_behind o g (text ∷ map f (drop (at + 1) ws))
 here f o g ws at x text a inv h is value =
-    first-left (asked_behind o g) f ws at x a inv is h ∙ ap (λ w. asked_behind o g (w ∷ map f (drop (at + 1) ws))) (sym value)
+    first_left (asked_behind o g) f ws at x a inv is h ∙ ap (λ w. asked_behind o g (w ∷ map f (drop (at + 1) ws))) (sym value)
 
 -- a word that asks for the usage
 pub at_help : (o : Option Valued) (g : Given) (w : List ℕ) (rest : List (List ℕ)) → o ≡ None → w ≡ codes "--help" → asked_behind o g (w ∷ rest) ≡ help

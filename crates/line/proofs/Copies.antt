@@ -29,27 +29,27 @@ same_header m l at = record {
 
 -- one line's copy
 module _ (m : Line) (l : List ℕ) (copy : Copy m l) where
-  number-near : (k : ℕ) → k < 6 → distance (get_or (encode_line m) k 0) (get_or l k 0) ≤ 1 → number_of l k ≡ get_or (header_numbers m) k 0
+  number_near : (k : ℕ) → k < 6 → distance (get_or (encode_line m) k 0) (get_or l k 0) ≤ 1 → number_of l k ≡ get_or (header_numbers m) k 0
   unfolding number_of
-  number-near k h near =
+  number_near k h near =
       corrects_one (get_or l k 0) (copy.bytes k) (get_or (header_numbers m) k 0) (number_small m copy.valid k h) (subst (λ w. distance w (get_or l k 0) ≤ 1) (word_at m k h) near)
 
   -- a number that is made out is the one that was sent
-  number-made-out : (k : ℕ) → k < 6 → number_of l k < 16 → number_of l k ≡ get_or (header_numbers m) k 0
+  number_made_out : (k : ℕ) → k < 6 → number_of l k < 16 → number_of l k ≡ get_or (header_numbers m) k 0
   unfolding number_of
-  number-made-out k h made =
+  number_made_out k h made =
       let d = distance (get_or (encode_line m) k 0) (get_or l k 0) in
       let most : d ≤ 2 = copy.damage.numbers k h in
-      ⊎_elim (λ lt. number-near k h (omega arith))
+      ⊎_elim (λ lt. number_near k h (omega arith))
       (λ ge. let two : d ≡ 2 = omega arith in
       absurd (omega (arith, detects_two (get_or l k 0) (copy.bytes k) (get_or (header_numbers m) k 0) (number_small m copy.valid k h) (subst (λ w. distance w (get_or l k 0) ≡ 2) (word_at m k h) two)))) (cases_lt d 2)
 
   header_read : readable l ≡ true → SameHeader m l
-  header_read e = same_header m l (λ k h. number-made-out k h ((readable_parts l e).numbers k h))
+  header_read e = same_header m l (λ k h. number_made_out k h ((readable_parts l e).numbers k h))
 
   -- a letter that is read is the one that was sent
-  letter-read : (c : ℕ) → c < 40 → 0 < decode_letter (get_or l (6 + c) 0) → decode_letter (get_or l (6 + c) 0) ≡ get_or m.letters c 0
-  letter-read c h known =
+  letter_read : (c : ℕ) → c < 40 → 0 < decode_letter (get_or l (6 + c) 0) → decode_letter (get_or l (6 + c) 0) ≡ get_or m.letters c 0
+  letter_read c h known =
       let x = get_or m.letters c 0 in
       let b = get_or l (6 + c) 0 in
       let e : get_or (encode_line m) (6 + c) 0 ≡ encode_letter x = letter_at m c (omega (arith, copy.valid.long)) in
@@ -57,23 +57,23 @@ module _ (m : Line) (l : List ℕ) (copy : Copy m l) where
       ⊎_elim (λ lt. reads_whole b (copy.bytes (6 + c)) x (copy.valid.letters c h) (omega arith))
       (λ ge. absurd (omega (arith, detects_one b (copy.bytes (6 + c)) x (copy.valid.letters c h) (omega arith)))) (cases_lt (distance (encode_letter x) b) 1)
 
-  pub reads-part : readable l ≡ true → PartOf (fragment l) (meaning m)
+  pub reads_part : readable l ≡ true → PartOf (fragment l) (meaning m)
   unfolding letters_of letters_at
-  reads-part e =
+  reads_part e =
       let is = header_read e in
       record {
         page = is.page;
         version = is.version;
         letters = λ r c. cond_both (eqb r (row_of l) && ltb c 40) (decode_letter (get_or l (6 + c) 0)) 0 (λ x. 0 < x → x ≡ cond (eqb r m.row && ltb c 40) (get_or m.letters c 0) 0)
             (λ t known. let at = and_parts (eqb r (row_of l)) (ltb c 40) t in
-            letter-read c (ltb-true _ _ at.1) known ∙ sym (cond-true _ _ _ (and_from _ _ (eq-eqb _ _ (eqb-true _ _ at.0 ∙ is.row)) at.1)))
+            letter_read c (ltb-true _ _ at.1) known ∙ sym (cond-true _ _ _ (and_from _ _ (eq-eqb _ _ (eqb-true _ _ at.0 ∙ is.row)) at.1)))
             (λ _ none. absurd (omega arith));
       }
 
 -- each number within a bit: the line is made out
 near_readable : (m : Line) (l : List ℕ) (copy : Copy m l) → ((k : ℕ) → k < 6 → distance (get_or (encode_line m) k 0) (get_or l k 0) ≤ 1) → readable l ≡ true
 near_readable m l copy near =
-    let at : (k : ℕ) → k < 6 → number_of l k ≡ get_or (header_numbers m) k 0 = λ k h. number-near m l copy k h (near k h) in
+    let at : (k : ℕ) → k < 6 → number_of l k ≡ get_or (header_numbers m) k 0 = λ k h. number_near m l copy k h (near k h) in
     readable_from l (record {
       long = copy.damage.came_long;
       numbers = λ k h. subst (λ x. x < 16) (sym (at k h)) (number_small m copy.valid k h);

@@ -8,7 +8,7 @@ use Rattle.coding.proofs.Below.{all_below, below_at}
 use Rattle.text.specs.Number.{digits_value}
 use Rattle.page_text.specs.Reading.{read_number}
 use Rattle.page_text.specs.Written.{decimal}
-use Rattle.page_text.proofs.LineWords.{number-found}
+use Rattle.page_text.proofs.LineWords.{number_found}
 
 -- what is seen of every byte's digits
 digits_test : ℕ → Bool
@@ -75,7 +75,7 @@ number_written places greatest n rest h short low end =
     let front : take (prefix_len is_ascii_digit (ds ++ rest)) (ds ++ rest) ≡ ds = ap (λ k. take k (ds ++ rest)) count ∙ take_at ds rest (length ds) refl in
     let back : drop (prefix_len is_ascii_digit (ds ++ rest)) (ds ++ rest) ≡ rest = ap (λ k. drop k (ds ++ rest)) count ∙ drop_at ds rest (length ds) refl in
     let is : digits_value (take (prefix_len is_ascii_digit (ds ++ rest)) (ds ++ rest)) ≡ n = ap digits_value front ∙ d.value in
-    number-found places greatest (ds ++ rest) (omega (arith, d.some)) (omega arith) (omega arith) ∙ (λ i. Some (is i, back i))
+    number_found places greatest (ds ++ rest) (omega (arith, d.some)) (omega arith) (omega arith) ∙ (λ i. Some (is i, back i))
 
 -- digits are no control codes
 pub digits_plain : (n : ℕ) → All (λ b. 32 ≤ b) (decimal n)

@@ -29,15 +29,15 @@ with_row_is r ls old got e =
 
 -- a search for a page's number: one page further, the page itself, and the end
 module _ (n : ℕ) (ps : List Page) (i : ℕ) (d : Page) where
-  pub search-more : i < length ps → ((get_or ps i d).number ≡ n → ⊥) → has_page n (drop i ps) ≡ has_page n ps → has_page n (drop (i + 1) ps) ≡ has_page n ps
+  pub search_more : i < length ps → ((get_or ps i d).number ≡ n → ⊥) → has_page n (drop i ps) ≡ has_page n ps → has_page n (drop (i + 1) ps) ≡ has_page n ps
   unfolding has_page
-  search-more h other e =
+  search_more h other e =
       let step : has_page n (drop i ps) ≡ (eqb (get_or ps i d).number n || has_page n (drop (i + 1) ps)) = at_drop_more (has_page n) ps i d h in
       sym (step ∙ ap (λ t. t || has_page n (drop (i + 1) ps)) (ne_eqb (get_or ps i d).number n other)) ∙ e
 
-  pub search-found : i < length ps → (get_or ps i d).number ≡ n → has_page n (drop i ps) ≡ has_page n ps → true ≡ has_page n ps
+  pub search_found : i < length ps → (get_or ps i d).number ≡ n → has_page n (drop i ps) ≡ has_page n ps → true ≡ has_page n ps
   unfolding has_page
-  search-found h same e =
+  search_found h same e =
       let step : has_page n (drop i ps) ≡ (eqb (get_or ps i d).number n || has_page n (drop (i + 1) ps)) = at_drop_more (has_page n) ps i d h in
       sym (step ∙ or_left _ _ (eq-eqb (get_or ps i d).number n same)) ∙ e
 
@@ -109,21 +109,21 @@ lines_cut (b ∷ (c ∷ cs)) h =
 
 -- a text read one line further, or refused there, or read to its end
 module _ (k : ℕ) (s : Reading) (bs : List ℕ) where
-  pub read-further : (t : Reading) (l rest : List ℕ) → 0 < length bs → l ≡ take (prefix_len in_line bs) bs → rest ≡ drop (prefix_len in_line bs + 1) bs → read_on (what_says (without_return l)) s ≡ Some t → read_lines k s (lines_of bs) ≡ read_lines (k + 1) t (lines_of rest)
+  pub read_further : (t : Reading) (l rest : List ℕ) → 0 < length bs → l ≡ take (prefix_len in_line bs) bs → rest ≡ drop (prefix_len in_line bs + 1) bs → read_on (what_says (without_return l)) s ≡ Some t → read_lines k s (lines_of bs) ≡ read_lines (k + 1) t (lines_of rest)
   unfolding read_lines by_reading
-  read-further t l rest h e f g =
+  read_further t l rest h e f g =
       ap (read_lines k s) (lines_cut bs h ∙ (λ i. sym e i ∷ lines_of (sym f i)))
       ∙ ap (λ o. by_reading k o (λ t. read_lines (k + 1) t (lines_of rest))) g
 
-  pub read-refused : (l : List ℕ) → 0 < length bs → l ≡ take (prefix_len in_line bs) bs → read_on (what_says (without_return l)) s ≡ None → read_lines k s (lines_of bs) ≡ bad_line k
+  pub read_refused : (l : List ℕ) → 0 < length bs → l ≡ take (prefix_len in_line bs) bs → read_on (what_says (without_return l)) s ≡ None → read_lines k s (lines_of bs) ≡ bad_line k
   unfolding read_lines by_reading
-  read-refused l h e g =
+  read_refused l h e g =
       ap (read_lines k s) (lines_cut bs h ∙ ap (λ x. x ∷ lines_of (drop (prefix_len in_line bs + 1) bs)) (sym e))
       ∙ ap (λ o. by_reading k o (λ t. read_lines (k + 1) t (lines_of (drop (prefix_len in_line bs + 1) bs)))) g
 
-  pub read-end : length bs ≡ 0 → read_lines k s (lines_of bs) ≡ pages_read s.begun
+  pub read_end : length bs ≡ 0 → read_lines k s (lines_of bs) ≡ pages_read s.begun
   unfolding read_lines lines_of
-  read-end h = ap (λ l. read_lines k s (lines_of l)) (nil_from_length bs h)
+  read_end h = ap (λ l. read_lines k s (lines_of l)) (nil_from_length bs h)
 
 -- what is left of a text falls with each line
 pub rest_shorter : (bs rest : List ℕ) → 0 < length bs → rest ≡ drop (prefix_len in_line bs + 1) bs → length rest + 1 ≤ length bs

@@ -9,34 +9,34 @@ use Rattle.page_text.specs.Reading.{after, read_number, and_then, read_heading, 
 
 -- a heading, read part by part
 module _ (l : List ℕ) where
-  pub heading-first : after (codes "page ") l ≡ None → read_heading l ≡ None
+  pub heading_first : after (codes "page ") l ≡ None → read_heading l ≡ None
   unfolding read_heading and_then
-  heading-first e = simp e
+  heading_first e = simp e
 
-  pub heading-page : (a : List ℕ) → after (codes "page ") l ≡ Some a → read_number 3 255 a ≡ None → read_heading l ≡ None
+  pub heading_page : (a : List ℕ) → after (codes "page ") l ≡ Some a → read_number 3 255 a ≡ None → read_heading l ≡ None
   unfolding read_heading and_then
-  heading-page a e f = simp (e, f)
+  heading_page a e f = simp (e, f)
 
-  pub heading-second : (a b : List ℕ) (p : ℕ) → after (codes "page ") l ≡ Some a → read_number 3 255 a ≡ Some (p, b) → after (codes " version ") b ≡ None → read_heading l ≡ None
+  pub heading_second : (a b : List ℕ) (p : ℕ) → after (codes "page ") l ≡ Some a → read_number 3 255 a ≡ Some (p, b) → after (codes " version ") b ≡ None → read_heading l ≡ None
   unfolding read_heading and_then
-  heading-second a b p e f g = simp (e, f, g)
+  heading_second a b p e f g = simp (e, f, g)
 
-  pub heading-version : (a b d : List ℕ) (p : ℕ) → after (codes "page ") l ≡ Some a → read_number 3 255 a ≡ Some (p, b) → after (codes " version ") b ≡ Some d → read_number 3 255 d ≡ None → read_heading l ≡ None
+  pub heading_version : (a b d : List ℕ) (p : ℕ) → after (codes "page ") l ≡ Some a → read_number 3 255 a ≡ Some (p, b) → after (codes " version ") b ≡ Some d → read_number 3 255 d ≡ None → read_heading l ≡ None
   unfolding read_heading and_then
-  heading-version a b d p e f g h = simp (e, f, g, h)
+  heading_version a b d p e f g h = simp (e, f, g, h)
 
-  pub heading-end : (a b d k : List ℕ) (p v : ℕ) → after (codes "page ") l ≡ Some a → read_number 3 255 a ≡ Some (p, b) → after (codes " version ") b ≡ Some d → read_number 3 255 d ≡ Some (v, k) → read_heading l ≡ cond (eqb (length k) 0) (Some (p, v)) None
+  pub heading_end : (a b d k : List ℕ) (p v : ℕ) → after (codes "page ") l ≡ Some a → read_number 3 255 a ≡ Some (p, b) → after (codes " version ") b ≡ Some d → read_number 3 255 d ≡ Some (v, k) → read_heading l ≡ cond (eqb (length k) 0) (Some (p, v)) None
   unfolding read_heading and_then
-  heading-end a b d k p v e f g h = simp (e, f, g, h)
+  heading_end a b d k p v e f g h = simp (e, f, g, h)
 
   -- a row, read part by part
   pub row_number : read_number 2 24 l ≡ None → read_row l ≡ None
   unfolding read_row and_then
   row_number e = simp e
 
-  pub row-blank : (a : List ℕ) (n : ℕ) → read_number 2 24 l ≡ Some (n, a) → after (codes " ") a ≡ None → read_row l ≡ None
+  pub row_blank : (a : List ℕ) (n : ℕ) → read_number 2 24 l ≡ Some (n, a) → after (codes " ") a ≡ None → read_row l ≡ None
   unfolding read_row and_then
-  row-blank a n e f = simp (e, f)
+  row_blank a n e f = simp (e, f)
 
   pub row_letters : (a ls : List ℕ) (n : ℕ) → read_number 2 24 l ≡ Some (n, a) → after (codes " ") a ≡ Some ls → read_row l ≡ cond (leb (length ls) columns && all_letters ls) (Some (n, ls)) None
   unfolding read_row and_then
@@ -76,17 +76,17 @@ says_more [] some e = absurd (some refl)
 says_more (b ∷ bs) some e = cond-false (eqb b 35) nothing (heading_or_row (read_heading (b ∷ bs)) (read_row (b ∷ bs))) (ne_eqb b 35 e)
 
 module _ (l : List ℕ) (some : length l ≡ 0 → ⊥) (plain : get_or l 0 0 ≡ 35 → ⊥) where
-  pub says-heading : (n v : ℕ) → read_heading l ≡ Some (n, v) → heading n v ≡ what_says l
+  pub says_heading : (n v : ℕ) → read_heading l ≡ Some (n, v) → heading n v ≡ what_says l
   unfolding heading_or_row
-  says-heading n v e = sym (says_more l some plain ∙ ap (λ h. heading_or_row h (read_row l)) e)
+  says_heading n v e = sym (says_more l some plain ∙ ap (λ h. heading_or_row h (read_row l)) e)
 
   pub says_row : (r : ℕ) (ls : List ℕ) → read_heading l ≡ None → read_row l ≡ Some (r, ls) → row r ls ≡ what_says l
   unfolding heading_or_row
   says_row r ls e f = sym (says_more l some plain ∙ (λ i. heading_or_row (e i) (f i)))
 
-  pub says-neither : read_heading l ≡ None → read_row l ≡ None → unreadable ≡ what_says l
+  pub says_neither : read_heading l ≡ None → read_row l ≡ None → unreadable ≡ what_says l
   unfolding heading_or_row
-  says-neither e f = sym (says_more l some plain ∙ (λ i. heading_or_row (e i) (f i)))
+  says_neither e f = sym (says_more l some plain ∙ (λ i. heading_or_row (e i) (f i)))
 
 -- a line that says something is a heading or a row, or can't be read
 says_something : (l : List ℕ) (x : Said) → what_says l ≡ x → (nothing ≡ x → ⊥) → heading_or_row (read_heading l) (read_row l) ≡ x

@@ -40,21 +40,21 @@ module _ (places greatest : ℕ) (bs : List ℕ) where
   abbrev value : ℕ
   value = digits_value (take digits bs)
 
-  pub number-found : 0 < digits → digits ≤ places → value ≤ greatest → read_number places greatest bs ≡ Some (value, drop digits bs)
+  pub number_found : 0 < digits → digits ≤ places → value ≤ greatest → read_number places greatest bs ≡ Some (value, drop digits bs)
   unfolding read_number
-  number-found some few low = cond-true (ltb 0 digits && (leb digits places && leb value greatest)) (Some (value, drop digits bs)) None (and_from (ltb 0 digits) _ (lt-ltb 0 digits some) (and_from (leb digits places) _ (le-leb digits places few) (le-leb value greatest low)))
+  number_found some few low = cond-true (ltb 0 digits && (leb digits places && leb value greatest)) (Some (value, drop digits bs)) None (and_from (ltb 0 digits) _ (lt-ltb 0 digits some) (and_from (leb digits places) _ (le-leb digits places few) (le-leb value greatest low)))
 
-  pub number-empty : digits ≤ 0 → read_number places greatest bs ≡ None
+  pub number_empty : digits ≤ 0 → read_number places greatest bs ≡ None
   unfolding read_number
-  number-empty none = cond-false (ltb 0 digits && (leb digits places && leb value greatest)) (Some (value, drop digits bs)) None (and_left (ltb 0 digits) _ (le-ltb 0 digits none))
+  number_empty none = cond-false (ltb 0 digits && (leb digits places && leb value greatest)) (Some (value, drop digits bs)) None (and_left (ltb 0 digits) _ (le-ltb 0 digits none))
 
-  pub number-long : places < digits → read_number places greatest bs ≡ None
+  pub number_long : places < digits → read_number places greatest bs ≡ None
   unfolding read_number
-  number-long long = cond-false (ltb 0 digits && (leb digits places && leb value greatest)) (Some (value, drop digits bs)) None (and_right (ltb 0 digits) _ (and_left (leb digits places) _ (lt-leb digits places long)))
+  number_long long = cond-false (ltb 0 digits && (leb digits places && leb value greatest)) (Some (value, drop digits bs)) None (and_right (ltb 0 digits) _ (and_left (leb digits places) _ (lt-leb digits places long)))
 
-  pub number-great : greatest < value → read_number places greatest bs ≡ None
+  pub number_great : greatest < value → read_number places greatest bs ≡ None
   unfolding read_number
-  number-great great = cond-false (ltb 0 digits && (leb digits places && leb value greatest)) (Some (value, drop digits bs)) None (and_right (ltb 0 digits) _ (and_right (leb digits places) _ (lt-leb value greatest great)))
+  number_great great = cond-false (ltb 0 digits && (leb digits places && leb value greatest)) (Some (value, drop digits bs)) None (and_right (ltb 0 digits) _ (and_right (leb digits places) _ (lt-leb value greatest great)))
 
   -- the same, as the code has it
   pub number_read : (n v : ℕ) → n ≡ digits → v ≡ digits_value (take (n - 0) bs) → (n ≡ 0 → ⊥) → n ≤ places → v ≤ greatest → read_number places greatest bs ≡ Some (v, take (length bs - n) (drop n bs))
@@ -63,13 +63,13 @@ module _ (places greatest : ℕ) (bs : List ℕ) where
       let is-value : v ≡ value = f ∙ ap (λ k. digits_value (take k bs)) zero-less in
       let rest : take (length bs - n) (drop n bs) ≡ drop digits bs = take_rest bs n ∙ ap (λ k. drop k bs) e in
       let more : 0 < digits = ⊎_elim (λ (h : 0 < digits). h) (λ (h : digits ≤ 0). absurd (some (omega arith))) (cases_lt 0 digits) in
-      number-found more (omega arith) (omega arith) ∙ (λ i. Some (sym is-value i, sym rest i))
+      number_found more (omega arith) (omega arith) ∙ (λ i. Some (sym is-value i, sym rest i))
 
-  pub number-over : (n v : ℕ) → n ≡ digits → v ≡ digits_value (take (n - 0) bs) → greatest < v → read_number places greatest bs ≡ None
-  number-over n v e f great =
+  pub number_over : (n v : ℕ) → n ≡ digits → v ≡ digits_value (take (n - 0) bs) → greatest < v → read_number places greatest bs ≡ None
+  number_over n v e f great =
       let zero-less : n - 0 ≡ digits = omega arith in
       let is-value : v ≡ value = f ∙ ap (λ k. digits_value (take k bs)) zero-less in
-      number-great (omega arith)
+      number_great (omega arith)
 
 -- what a reading that gave something went through
 pub and_then_some : {A B : Type 0} (o : Option A) (f : A → Option B) (b : B) → and_then o f ≡ Some b → (a : A) × (o ≡ Some a) × (f a ≡ Some b)

@@ -9,11 +9,11 @@ use Rattle.line.specs.Size.{rows, columns}
 use Rattle.page_text.specs.declared.Page.{Page}
 use Rattle.page_text.specs.Reading.{in_line, before_first, lines_of, all_letters, after, read_number, read_heading, read_row, padded, with_row, page_with_row, blank_page, has_page, on_last, heading, row, what_says, Reading, read_on, no_rows, at_start, pages_read, by_reading, read_lines, read_text}
 use Rattle.text.specs.Lines.{without_return}
-use Rattle.text.proofs.LineEnds.{untrimmed}
+use Rattle.text.proofs.LineEnds.{no_return_stays}
 use Rattle.page_text.specs.Written.{decimal, ended, heading_line, row_line, rows_text, page_text, pages_text}
 use Rattle.page_text.specs.Laws.{Distinct, Whole, WrittenIsRead}
 use Rattle.page_text.proofs.DecimalDigits.{digits_of, number_written, digits_plain, row_digits}
-use Rattle.page_text.proofs.LineItems.{heading-first, heading-end, row_letters, says-heading, says_row}
+use Rattle.page_text.proofs.LineItems.{heading_first, heading_end, row_letters, says_heading, says_row}
 use Rattle.page_text.proofs.DraftPages.{heading_taken}
 use Rattle.page_text.proofs.LineWords.{after_found}
 
@@ -44,7 +44,7 @@ no_return l a =
     (λ (some : 0 < length l). let low : 32 ≤ get_or l (length l - 1) 0 = All-get_or Plain l (length l - 1) 0 (omega arith) a in omega arith)
     (λ (none : length l ≤ 0). let past : get_or l (length l - 1) 0 ≡ 0 = get_or_past l (length l - 1) 0 (omega arith) in omega arith)
     (cases_lt 0 (length l)) in
-    sym (untrimmed 13 l other)
+    sym (no_return_stays l other)
 
 read_line : (k : ℕ) (s t : Reading) (l rest : List ℕ) → All Plain l → read_on (what_says l) s ≡ Some t → read_lines k s (lines_of (ended l ++ rest)) ≡ read_lines (k + 1) t (lines_of rest)
 unfolding read_lines by_reading
@@ -68,11 +68,11 @@ heading_read n v hn hv =
     let b : List ℕ = codes " version " ++ decimal v in
     let a : List ℕ = decimal n ++ b in
     let last : read_number 3 255 (decimal v) ≡ Some (v, []) = ap (read_number 3 255) (sym (append-nil (decimal v))) ∙ number_written 3 255 v [] hv (digits_of v hv).few (omega arith) refl in
-    heading-end (codes "page " ++ a) a b (decimal v) [] n v (after_found (codes "page ") a) (number_written 3 255 n b hn (digits_of n hn).few (omega arith) refl) (after_found (codes " version ") (decimal v)) last
+    heading_end (codes "page " ++ a) a b (decimal v) [] n v (after_found (codes "page ") a) (number_written 3 255 n b hn (digits_of n hn).few (omega arith) refl) (after_found (codes " version ") (decimal v)) last
 
 heading_said : (n v : ℕ) → n < 256 → v < 256 → what_says (heading_line n v) ≡ heading n v
 unfolding heading_line
-heading_said n v hn hv = sym (says-heading (heading_line n v) (λ e. omega arith) (λ e. omega arith) n v (heading_read n v hn hv))
+heading_said n v hn hv = sym (says_heading (heading_line n v) (λ e. omega arith) (λ e. omega arith) n v (heading_read n v hn hv))
 
 -- a row as it is written
 abbrev slice : ℕ → List ℕ → List ℕ
@@ -95,30 +95,30 @@ no_heading [] low high = refl
 no_heading (d ∷ ds) low high = cond-false (eqb 112 d) _ None (ne_eqb 112 d (λ e. omega arith))
 
 module _ (r : ℕ) (letters : List ℕ) (within : r < rows) (long : length letters ≡ rows * columns) (written : All Letter letters) where
-  length-slice : length (slice r letters) ≡ columns
-  length-slice = length-take-le columns (drop (columns * r) letters) (omega (arith, length-drop (columns * r) letters))
+  length_slice : length (slice r letters) ≡ columns
+  length_slice = length-take-le columns (drop (columns * r) letters) (omega (arith, length-drop (columns * r) letters))
 
-  first-digit : get_or (row_line r letters) 0 0 ≡ get_or (decimal r) 0 0
+  first_digit : get_or (row_line r letters) 0 0 ≡ get_or (decimal r) 0 0
   unfolding row_line
-  first-digit = get_or_append_left (decimal r) (32 ∷ slice r letters) 0 0 (digits_of r (omega arith)).some
+  first_digit = get_or_append_left (decimal r) (32 ∷ slice r letters) 0 0 (digits_of r (omega arith)).some
 
   row_read : read_row (row_line r letters) ≡ Some (r, slice r letters)
   unfolding row_line
   row_read =
       let ls : List ℕ = slice r letters in
       let few : length (decimal r) ≤ 2 = row_digits r within in
-      let passes : (leb (length ls) columns && all_letters ls) ≡ true = and_from (leb (length ls) columns) (all_letters ls) (le-leb (length ls) columns (omega (arith, length-slice)))
+      let passes : (leb (length ls) columns && all_letters ls) ≡ true = and_from (leb (length ls) columns) (all_letters ls) (le-leb (length ls) columns (omega (arith, length_slice)))
       (all_written ls (All-take Letter columns (drop (columns * r) letters) (All-drop Letter (columns * r) letters written))) in
       row_letters (decimal r ++ (32 ∷ ls)) (32 ∷ ls) ls r (number_written 2 24 r (32 ∷ ls) (omega arith) few (omega arith) refl) (after_found (codes " ") ls)
       ∙ cond-true (leb (length ls) columns && all_letters ls) (Some (r, ls)) None passes
 
-  row-said : what_says (row_line r letters) ≡ row r (slice r letters)
-  row-said =
+  row_said : what_says (row_line r letters) ≡ row r (slice r letters)
+  row_said =
       let d = digits_of r (omega arith) in
-      let first : get_or (row_line r letters) 0 0 ≡ get_or (decimal r) 0 0 = first-digit in
+      let first : get_or (row_line r letters) 0 0 ≡ get_or (decimal r) 0 0 = first_digit in
       let low : 48 ≤ get_or (row_line r letters) 0 0 = omega (arith, d.low) in
       let high : get_or (row_line r letters) 0 0 ≤ 57 = omega (arith, d.high) in
-      let none : read_heading (row_line r letters) ≡ None = heading-first (row_line r letters) (no_heading (row_line r letters) low high) in
+      let none : read_heading (row_line r letters) ≡ None = heading_first (row_line r letters) (no_heading (row_line r letters) low high) in
       sym (says_row (row_line r letters) (λ e. let past : get_or (row_line r letters) 0 0 ≡ 0 = get_or_past (row_line r letters) 0 0 (omega arith) in omega arith) (λ e. omega arith) r (slice r letters) none row_read)
 
 -- a page whose first r rows were read
@@ -175,11 +175,11 @@ on_last_push f (q ∷ (x ∷ ps)) p = ap (λ l. q ∷ l) (on_last_push f (x ∷ 
 
 -- a page's text, read after some pages
 module _ (done : List Page) (p : Page) (w : Whole p) where
-  reading-at : ℕ → Reading
-  reading-at r = record { begun = done ++ so_far p r ∷ []; given = given_so_far r }
+  reading_at : ℕ → Reading
+  reading_at r = record { begun = done ++ so_far p r ∷ []; given = given_so_far r }
 
-  row_on : (r : ℕ) → r < rows → read_on (row r (slice r p.letters)) (reading-at r) ≡ Some (reading-at (suc r))
-  unfolding read_on reading-at so_far page_with_row
+  row_on : (r : ℕ) → r < rows → read_on (row r (slice r p.letters)) (reading_at r) ≡ Some (reading_at (suc r))
+  unfolding read_on reading_at so_far page_with_row
   row_on r h =
       let some : length (done ++ so_far p r ∷ []) ≡ 0 → ⊥ = λ e. omega (arith, length_push done (so_far p r)) in
       let letters = row_put r p.letters h w.long in
@@ -189,21 +189,21 @@ module _ (done : List Page) (p : Page) (w : Whole p) where
         given = given_more r h i;
       }))
 
-  rows-read : (r k : ℕ) (rest : List ℕ) → r ≤ rows → read_lines k (reading-at 0) (lines_of (rows_text r p.letters ++ rest)) ≡ read_lines (k + r) (reading-at r) (lines_of rest)
+  rows_read : (r k : ℕ) (rest : List ℕ) → r ≤ rows → read_lines k (reading_at 0) (lines_of (rows_text r p.letters ++ rest)) ≡ read_lines (k + r) (reading_at r) (lines_of rest)
   unfolding rows_text
-  rows-read zero k rest h = ap (λ n. read_lines n (reading-at 0) (lines_of rest)) (sym (add-zero k))
-  rows-read (suc r) k rest h =
+  rows_read zero k rest h = ap (λ n. read_lines n (reading_at 0) (lines_of rest)) (sym (add-zero k))
+  rows_read (suc r) k rest h =
       let within : r < rows = omega arith in
       let line : List ℕ = row_line r p.letters in
       let next : k + r + 1 ≡ k + suc r = omega arith in
-      ap (λ x. read_lines k (reading-at 0) (lines_of x)) (append_assoc (rows_text r p.letters) (ended line) rest)
-      ∙ rows-read r k (ended line ++ rest) (omega arith)
-      ∙ read_line (k + r) (reading-at r) (reading-at (suc r)) line rest (row_plain r p.letters w.written) (ap (λ x. read_on x (reading-at r)) (row-said r p.letters within w.long w.written) ∙ row_on r within)
-      ∙ ap (λ n. read_lines n (reading-at (suc r)) (lines_of rest)) next
+      ap (λ x. read_lines k (reading_at 0) (lines_of x)) (append_assoc (rows_text r p.letters) (ended line) rest)
+      ∙ rows_read r k (ended line ++ rest) (omega arith)
+      ∙ read_line (k + r) (reading_at r) (reading_at (suc r)) line rest (row_plain r p.letters w.written) (ap (λ x. read_on x (reading_at r)) (row_said r p.letters within w.long w.written) ∙ row_on r within)
+      ∙ ap (λ n. read_lines n (reading_at (suc r)) (lines_of rest)) next
 
-  all-rows : so_far p rows ≡ p
+  all_rows : so_far p rows ≡ p
   unfolding so_far
-  all-rows =
+  all_rows =
       let all : take (rows * columns) p.letters ≡ p.letters = take_all (rows * columns) p.letters (omega (arith, w.long)) in
       λ i. record { number = p.number; version = p.version; letters = (append-nil (take (rows * columns) p.letters) ∙ all) i }
 
@@ -211,26 +211,26 @@ module _ (done : List Page) (p : Page) (w : Whole p) where
   unfolding so_far blank_page
   no_row = refl
 
-  no-row-given : no_rows ≡ given_so_far 0
+  no_row_given : no_rows ≡ given_so_far 0
   unfolding given_so_far no_rows
-  no-row-given = refl
+  no_row_given = refl
 
   -- the page stands after those that were there
   read_all : Reading
   read_all = record { begun = done ++ p ∷ []; given = given_so_far rows }
 
-  page-read : (k : ℕ) (given : List Bool) (rest : List ℕ) → has_page p.number done ≡ false → read_lines k (record { begun = done; given = given }) (lines_of (page_text p ++ rest)) ≡ read_lines (k + 1 + rows) read_all (lines_of rest)
-  unfolding page_text read_all reading-at
-  page-read k given rest new =
+  page_read : (k : ℕ) (given : List Bool) (rest : List ℕ) → has_page p.number done ≡ false → read_lines k (record { begun = done; given = given }) (lines_of (page_text p ++ rest)) ≡ read_lines (k + 1 + rows) read_all (lines_of rest)
+  unfolding page_text read_all reading_at
+  page_read k given rest new =
       let line : List ℕ = heading_line p.number p.version in
-      let said : read_on (what_says line) (record { begun = done; given = given }) ≡ Some (reading-at 0) =
+      let said : read_on (what_says line) (record { begun = done; given = given }) ≡ Some (reading_at 0) =
       ap (λ x. read_on x (record { begun = done; given = given })) (heading_said p.number p.version w.number_fits w.version_fits)
       ∙ heading_taken p.number p.version (record { begun = done; given = given }) (blank_page p.number p.version) (done ++ blank_page p.number p.version ∷ []) (sym new) refl refl
-      ∙ (λ i. Some (record { begun = done ++ no_row i ∷ []; given = no-row-given i })) in
+      ∙ (λ i. Some (record { begun = done ++ no_row i ∷ []; given = no_row_given i })) in
       ap (λ x. read_lines k (record { begun = done; given = given }) (lines_of x)) (append_assoc (ended line) (rows_text rows p.letters) rest)
-      ∙ read_line k (record { begun = done; given = given }) (reading-at 0) line (rows_text rows p.letters ++ rest) (heading_plain p.number p.version) said
-      ∙ rows-read rows (k + 1) rest (omega arith)
-      ∙ ap (λ q. read_lines (k + 1 + rows) (record { begun = done ++ q ∷ []; given = given_so_far rows }) (lines_of rest)) all-rows
+      ∙ read_line k (record { begun = done; given = given }) (reading_at 0) line (rows_text rows p.letters ++ rest) (heading_plain p.number p.version) said
+      ∙ rows_read rows (k + 1) rest (omega arith)
+      ∙ ap (λ q. read_lines (k + 1 + rows) (record { begun = done ++ q ∷ []; given = given_so_far rows }) (lines_of rest)) all_rows
 
 -- the pages still to come are new
 has_push : (n : ℕ) (ps : List Page) (p : Page) → has_page n ps ≡ false → (n ≡ p.number → ⊥) → has_page n (ps ++ p ∷ []) ≡ false
@@ -256,7 +256,7 @@ pages_all : (ps : List Page) (k : ℕ) (s : Reading) → New s.begun ps → Dist
 unfolding read_lines lines_of read_all
 pages_all [] k s new d w = ap pages_read (sym (append-nil s.begun))
 pages_all (p ∷ ps) k s new d w =
-    page-read s.begun p w.0 k s.given (pages_text ps) new.0
+    page_read s.begun p w.0 k s.given (pages_text ps) new.0
     ∙ pages_all ps (k + 1 + rows) (read_all s.begun p w.0) (new_push s.begun ps p new.1 d.0) d.1 w.1
     ∙ ap pages_read (append_assoc s.begun (p ∷ []) ps)
 

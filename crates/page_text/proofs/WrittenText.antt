@@ -1,13 +1,28 @@
 -- Lemmas on the writing of page texts, part by part. Assumes nothing.
-use Rattle.std.proofs.Common.{◌≡◌, ℕ, ◌+◌, ◌-◌, ◌*◌, ◌/◌, ◌%◌, ◌<◌, ◌≤◌, cond, ltb, List, [], ◌∷◌, ◌++◌, take, drop, is_ok, IfOk, Ok, Err, codes, Result, sym, ap, ◌∙◌, append_assoc, add-one, arith}
+use Rattle.std.proofs.Common.{◌≡◌, ℕ, ◌+◌, ◌-◌, ◌*◌, ◌/◌, ◌%◌, ◌<◌, ◌≤◌, true, cond, ltb, List, [], ◌∷◌, ◌++◌, take, drop, is_ok, is_err, Ok, Err, codes, Result, sym, ap, ◌∙◌, append_assoc, append-nil, add-one, arith}
 use Rattle.std.proofs.lemmas.Bool.{cond-true, cond-false, lt-ltb, le-ltb}
 use Rattle.line.specs.Size.{columns}
+use Rattle.page_text.specs.Code.{Begins, Appended}
 use Rattle.page_text.specs.Written.{decimal, ended, heading_line, row_line, rows_text}
 
+-- what stood there before stands there still
+pub begins_so : {was new : List ℕ} → new ≡ was → Begins was new
+begins_so {was} {new} e = record { more = []; is = e ∙ sym (append-nil was) }
+
+pub begins_with : (was new more : List ℕ) → new ≡ was ++ more → Begins was new
+begins_with was new more e = record { more = more; is = e }
+
+pub begins_on : {was new last : List ℕ} → Begins was new → Begins new last → Begins was last
+begins_on {was} {new} {last} a b = record { more = a.more ++ b.more; is = b.is ∙ ap (λ l. l ++ b.more) a.is ∙ append_assoc was a.more b.more }
+
 -- what one call appends
-pub appended : {E : Type 0} (r : Result (Unit {0}) E) (was new ys text : List ℕ) → new ≡ cond (is_ok r) (was ++ ys) was → ys ≡ text → IfOk r (λ _. new ≡ was ++ text)
+pub appended : {E : Type 0} (r : Result (Unit {0}) E) (was new ys text : List ℕ) → new ≡ cond (is_ok r) (was ++ ys) was → ys ≡ text → Appended was new text r
 appended (Ok x) was new ys text e f = e ∙ ap (λ l. was ++ l) f
-appended (Err x) was new ys text e f = tt
+appended (Err x) was new ys text e f = begins_so e
+
+pub appended_not : {E : Type 0} (r : Result (Unit {0}) E) (was new text : List ℕ) → is_err r ≡ true → Begins was new → Appended was new text r
+appended_not (Ok x) was new text e b = let z : ◌≡◌ {A = ℕ} 0 1 = cc in absurd (omega arith)
+appended_not (Err x) was new text e b = b
 
 pub one_digit : (n : ℕ) → n < 10 → (48 + n % 10) ∷ [] ≡ decimal n
 unfolding decimal

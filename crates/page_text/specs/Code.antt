@@ -1,5 +1,5 @@
 -- What the code's own values stand for when it reads page texts. Assumes nothing: these are definitions.
-use Rattle.std.specs.Prelude.{◌≡◌, ℕ, Some, None, Ok, Err, vec_items, Option, Result}
+use Rattle.std.specs.Prelude.{◌≡◌, ℕ, List, ◌++◌, Some, None, Ok, Err, vec_items, Option, Result}
 use Rattle.page_text.specs.declared.reading.Draft.{Draft}
 use Rattle.page_text.specs.declared.items.Item.{Item}
 use Rattle.page_text.specs.declared.items.Item.TheVariants.{Pass, Heading, Row, Unreadable}
@@ -28,3 +28,13 @@ Taken next before draft place (Err Memory) = reading draft ≡ reading before
 abbrev pub Tells : Outcome → TextError → Type 0
 Tells outcome (Refused k) = outcome ≡ bad_line k
 Tells outcome Memory = Unit {0}
+
+-- some bytes stand as they were, with others after them
+pub record Begins (was bytes : List ℕ) : Type 0 where
+  pub more : List ℕ
+  pub is : bytes ≡ was ++ more
+
+-- a text was appended to some bytes, or memory was wanting, and a part of it may have been
+abbrev pub Appended : {E : Type 0} → List ℕ → List ℕ → List ℕ → Result (Unit {0}) E → Type 0
+Appended was bytes text (Ok _) = bytes ≡ was ++ text
+Appended was bytes text (Err _) = Begins was bytes

@@ -1,6 +1,7 @@
 // The writing of page texts.
-ghost use Rattle.std.specs.Prelude.{◌≡◌, ◌<◌, ◌++◌, IfOk, OnOk};
+ghost use Rattle.std.specs.Prelude.{◌≡◌, ◌<◌, IfOk};
 ghost use Rattle.line.specs.Size.{rows};
+ghost use Rattle.page_text.specs.Code.{Appended};
 ghost use Rattle.page_text.specs.Laws.{WrittenIsRead};
 ghost use Rattle.page_text.specs.Written.{decimal, ended, heading_line, row_line, page_text};
 
@@ -11,7 +12,7 @@ const ROW_COUNT: u8 = line::ROWS as u8;
 
 // Appends the digits of a number, with no leading zero.
 fn write_number(out: &mut Vec<u8>, n: u8) -> Result<(), AllocError>
-    ensures { OnOk result (out.new.items ≡ out.old.items ++ (decimal n)) }
+    ensures { Appended out.old.items out.new.items (decimal n) result }
 {
     let units = b'0' + n % 10;
     let tens = b'0' + n / 10 % 10;
@@ -25,7 +26,7 @@ fn write_number(out: &mut Vec<u8>, n: u8) -> Result<(), AllocError>
 }
 
 fn write_heading(out: &mut Vec<u8>, page: &Page) -> Result<(), AllocError>
-    ensures { OnOk result (out.new.items ≡ out.old.items ++ (ended (heading_line page.now.number page.now.version))) }
+    ensures { Appended out.old.items out.new.items (ended (heading_line page.now.number page.now.version)) result }
 {
     out.extend_from_slice(b"page ")?;
     write_number(out, page.number)?;
@@ -37,7 +38,7 @@ fn write_heading(out: &mut Vec<u8>, page: &Page) -> Result<(), AllocError>
 
 fn write_row(out: &mut Vec<u8>, page: &Page, row: u8) -> Result<(), AllocError>
     requires { row < rows }
-    ensures { OnOk result (out.new.items ≡ out.old.items ++ (ended (row_line row page.now.letters))) }
+    ensures { Appended out.old.items out.new.items (ended (row_line row page.now.letters)) result }
 {
     write_number(out, row)?;
     out.push(BLANK)?;

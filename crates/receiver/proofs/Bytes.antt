@@ -36,10 +36,10 @@ shows_apply s t f n a =
 
 -- stores that differ at most in slot i, where both hold a page that shows the same, are equal
 module _ (s a b : List ℕ) (i n : ℕ) (hi : i < slots s) (la : length a ≡ length s) (lb : length b ≡ length s) (ha : holds a n i ≡ true) (hb : holds b n i ≡ true)
-    (only-a : OnlySlot s a i) (only-b : OnlySlot s b i) (same : ShowsSame (slot_page a i) (slot_page b i)) where
+    (only_a : OnlySlot s a i) (only_b : OnlySlot s b i) (same : ShowsSame (slot_page a i) (slot_page b i)) where
   -- the bytes of the slot, one by one
-  slot-byte : (k : ℕ) → 1003 * i ≤ k → k < 1003 * i + 1003 → get_or a k 0 ≡ get_or b k 0
-  slot-byte k lo up =
+  slot_byte : (k : ℕ) → 1003 * i ≤ k → k < 1003 * i + 1003 → get_or a k 0 ≡ get_or b k 0
+  slot_byte k lo up =
       let by : (x : ℕ) → k ≡ x → get_or a x 0 ≡ get_or b x 0 → get_or a k 0 ≡ get_or b k 0 = λ x e h. subst (λ j. get_or a j 0 ≡ get_or b j 0) (sym e) h in
       ⊎_elim (λ e. by (1003 * i) e ((holds_parts a n i ha).0 ∙ sym (holds_parts b n i hb).0))
       (λ n₀. ⊎_elim (λ e. by (1003 * i + 1) e ((holds_parts a n i ha).1 ∙ sym (holds_parts b n i hb).1))
@@ -51,18 +51,18 @@ module _ (s a b : List ℕ) (i n : ℕ) (hi : i < slots s) (la : length a ≡ le
       (cases_eq k (1003 * i + 1)))
       (cases_eq k (1003 * i))
 
-  equal-bytes : a ≡ b
-  equal-bytes =
+  equal_bytes : a ≡ b
+  equal_bytes =
       ext_get_or 0 a b (la ∙ sym lb) (λ k _.
-      ⊎_elim (λ lo. only-a k (inl lo) ∙ sym (only-b k (inl lo)))
-      (λ ge. ⊎_elim (λ up. slot-byte k ge up) (λ past. only-a k (inr past) ∙ sym (only-b k (inr past))) (cases_lt k (1003 * i + 1003))) (cases_lt k (1003 * i)))
+      ⊎_elim (λ lo. only_a k (inl lo) ∙ sym (only_b k (inl lo)))
+      (λ ge. ⊎_elim (λ up. slot_byte k ge up) (λ past. only_a k (inr past) ∙ sym (only_b k (inr past))) (cases_lt k (1003 * i + 1003))) (cases_lt k (1003 * i)))
 
 pub same_bytes : (s a b : List ℕ) (i n : ℕ) → i < slots s → length a ≡ length s → length b ≡ length s → well_formed a ≡ true → well_formed b ≡ true → holds a n i ≡ true → holds b n i ≡ true →
     OnlySlot s a i → OnlySlot s b i → ShowsSame (page_in a n) (page_in b n) → a ≡ b
-same_bytes s a b i n hi la lb oka okb ha hb only-a only-b same =
+same_bytes s a b i n hi la lb oka okb ha hb only_a only_b same =
     let pa = page_held a n i oka (subst (λ x. i < x) (sym (same_slots s a la)) hi) ha in
     let pb = page_held b n i okb (subst (λ x. i < x) (sym (same_slots s b lb)) hi) hb in
-    equal-bytes s a b i n hi la lb ha hb only-a only-b (shows_then (shows_is (sym pa)) (shows_then same (shows_is pb)))
+    equal_bytes s a b i n hi la lb ha hb only_a only_b (shows_then (shows_is (sym pa)) (shows_then same (shows_is pb)))
 
 -- a page goes into one slot
 pub same_slot : (n : ℕ) (s a b : List ℕ) (i j : ℕ) → well_formed s ≡ true → InSlot n s a i → InSlot n s b j → j ≡ i

@@ -5,7 +5,7 @@ use Rattle.line.specs.Line.{meaning}
 use Rattle.line.specs.Damage.{Copy}
 use Rattle.line.specs.Reading.{version_of, readable, fragment}
 use Rattle.line.specs.declared.Line.{Line}
-use Rattle.line.proofs.Copies.{reads-part}
+use Rattle.line.proofs.Copies.{reads_part}
 use Rattle.store.specs.Page.{apply}
 use Rattle.store.specs.Layout.{well_formed, page_in}
 use Rattle.store.specs.Slots.{Applied}
@@ -37,15 +37,15 @@ pub commutation_of_pages : CommutationOfPages
 commutation_of_pages s s₁ s₂ t₁ t₂ k l p q p₁ q₁ ok ne a b c d np nq np₁ nq₁ n =
     ⊎_elim
     (λ x. ⊎_elim
-    (λ y. shows_is (ap (λ t. page_in t n) (y.1 ∙ x.1 ∙ sym (useless-of k t₁ t₂ p₁ okt np₁ d x.0 ∙ useless-of l s t₁ q₁ ok nq₁ c y.0))))
-    (λ y. let c₁ = applied-of l s t₁ q₁ ok nq₁ c y.0 in
+    (λ y. shows_is (ap (λ t. page_in t n) (y.1 ∙ x.1 ∙ sym (useless_of k t₁ t₂ p₁ okt np₁ d x.0 ∙ useless_of l s t₁ q₁ ok nq₁ c y.0))))
+    (λ y. let c₁ = applied_of l s t₁ q₁ ok nq₁ c y.0 in
     shows_then (y.1.pages n) (shows_then (shows_apply (page_in s₁) (page_in s) (fragment l) n (shows_is (ap (λ t. page_in t n) x.1)))
-    (shows_then (shows_sym (c₁.pages n)) (shows_is (sym (ap (λ t. page_in t n) (useless-of k t₁ t₂ p₁ okt np₁ d x.0))))))) (used l s₁ s₂ q ok₁ nq b))
+    (shows_then (shows_sym (c₁.pages n)) (shows_is (sym (ap (λ t. page_in t n) (useless_of k t₁ t₂ p₁ okt np₁ d x.0))))))) (used l s₁ s₂ q ok₁ nq b))
     (λ x. ⊎_elim
-    (λ y. let d₁ = applied-of k t₁ t₂ p₁ okt np₁ d x.0 in
+    (λ y. let d₁ = applied_of k t₁ t₂ p₁ okt np₁ d x.0 in
     shows_then (shows_is (ap (λ t. page_in t n) y.1)) (shows_then (x.1.pages n)
-    (shows_then (shows_apply (page_in s) (page_in t₁) (fragment k) n (shows_is (sym (ap (λ t. page_in t n) (useless-of l s t₁ q₁ ok nq₁ c y.0))))) (shows_sym (d₁.pages n)))))
-    (λ y. let c₁ = applied-of l s t₁ q₁ ok nq₁ c y.0 in let d₁ = applied-of k t₁ t₂ p₁ okt np₁ d x.0 in
+    (shows_then (shows_apply (page_in s) (page_in t₁) (fragment k) n (shows_is (sym (ap (λ t. page_in t n) (useless_of l s t₁ q₁ ok nq₁ c y.0))))) (shows_sym (d₁.pages n)))))
+    (λ y. let c₁ = applied_of l s t₁ q₁ ok nq₁ c y.0 in let d₁ = applied_of k t₁ t₂ p₁ okt np₁ d x.0 in
     shows_then (y.1.pages n) (shows_then (shows_apply (page_in s₁) (apply (page_in s) (fragment k)) (fragment l) n (x.1.pages n))
     (shows_then (commutes (page_in s) (fragment k) (fragment l) (λ e. absurd (ne e)) n)
     (shows_then (shows_sym (shows_apply (page_in t₁) (apply (page_in s) (fragment l)) (fragment k) n (c₁.pages n))) (shows_sym (d₁.pages n)))))) (used l s₁ s₂ q ok₁ nq b))
@@ -57,11 +57,11 @@ commutation_of_pages s s₁ s₂ t₁ t₂ k l p q p₁ q₁ ok ne a b c d np nq
     okt : well_formed t₁ ≡ true
     okt = still_formed (stepped l s t₁ q₁ ok c) ok
 
-    useless-of : (x u v : List ℕ) (r : Done) → well_formed u ≡ true → (r ≡ Full → ⊥) → Answers x u r v → readable x ≡ false → v ≡ u
-    useless-of x u v r ok nf w g = ⊎_elim (λ z. z.1) (λ z. absurd (both_ways _ g z.0)) (used x u v r ok nf w)
+    useless_of : (x u v : List ℕ) (r : Done) → well_formed u ≡ true → (r ≡ Full → ⊥) → Answers x u r v → readable x ≡ false → v ≡ u
+    useless_of x u v r ok nf w g = ⊎_elim (λ z. z.1) (λ z. absurd (both_ways _ g z.0)) (used x u v r ok nf w)
 
-    applied-of : (x u v : List ℕ) (r : Done) → well_formed u ≡ true → (r ≡ Full → ⊥) → Answers x u r v → readable x ≡ true → Applied (fragment x) u v
-    applied-of x u v r ok nf w g = ⊎_elim (λ z. absurd (both_ways _ z.0 g)) (λ z. z.1) (used x u v r ok nf w)
+    applied_of : (x u v : List ℕ) (r : Done) → well_formed u ≡ true → (r ≡ Full → ⊥) → Answers x u r v → readable x ≡ true → Applied (fragment x) u v
+    applied_of x u v r ok nf w g = ⊎_elim (λ z. absurd (both_ways _ z.0 g)) (λ z. z.1) (used x u v r ok nf w)
 
 -- the page after a second copy, at one place
 second_at : (m : Line) (l s₁ s₂ : List ℕ) (r c : ℕ) → r < 25 → c < 40 → Copy m l → (0 < (meaning m).letters r c → (page_in s₁ m.page).letters r c ≡ (meaning m).letters r c) →
@@ -69,7 +69,7 @@ second_at : (m : Line) (l s₁ s₂ : List ℕ) (r c : ℕ) → r < 25 → c < 4
 second_at m l s₁ s₂ r c hr hc copy is h (useless g e) = subst (λ t. Stands m.version r c ((page_in s₁ m.page).letters r c) (page_in t m.page)) (sym e) h
 second_at m l s₁ s₂ r c hr hc copy is h (no_room g w e) = subst (λ t. Stands m.version r c ((page_in s₁ m.page).letters r c) (page_in t m.page)) (sym e) h
 second_at m l s₁ s₂ r c hr hc copy is h (applied g w) =
-    let part = reads-part m l copy g in
+    let part = reads_part m l copy g in
     shows_stands m.version r c _ _ _ hr hc (w.pages m.page)
     (keeps_apply (page_in s₁) (fragment l) m.page m.version r c _ (λ _. part.version) (λ _ known. let e = part.letters r c known in e ∙ sym (is (subst (λ z. 0 < z) e known))) h)
 
@@ -78,7 +78,7 @@ second_version : (m : Line) (l s₁ s₂ : List ℕ) → Copy m l → (page_in s
 second_version m l s₁ s₂ copy t v (useless g e) = (ap (λ z. (page_in z m.page).there) e ∙ t, ap (λ z. (page_in z m.page).version) e ∙ v)
 second_version m l s₁ s₂ copy t v (no_room g w e) = (ap (λ z. (page_in z m.page).there) e ∙ t, ap (λ z. (page_in z m.page).version) e ∙ v)
 second_version m l s₁ s₂ copy t v (applied g w) =
-    let part = reads-part m l copy g in
+    let part = reads_part m l copy g in
     let said = stands_applied (fragment l) s₁ s₂ w in
     (subst (λ x. (page_in s₂ x).there ≡ true) part.page said.here, subst (λ x. (page_in s₂ x).version ≡ version_of l) part.page said.version ∙ part.version)
 
@@ -86,7 +86,7 @@ pub second_copy : SecondCopy
 second_copy m k l s s₁ s₂ q ok ck cl a b =
     let n = m.page in
     let w = a.says.applied in
-    let part = reads-part m k ck a.says.readable in
+    let part = reads_part m k ck a.says.readable in
     let said : StandsAlready (fragment k) (page_in s₁ n) = subst (λ x. StandsAlready (fragment k) (page_in s₁ x)) part.page (stands_applied (fragment k) s s₁ w) in
     let ver : (page_in s₁ n).version ≡ m.version = said.version ∙ part.version in
     let st = stepped l s₁ s₂ q w.formed b in

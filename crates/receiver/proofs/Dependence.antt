@@ -14,7 +14,7 @@ use Rattle.receiver.specs.Promises.{PageDependence}
 use Rattle.receiver.specs.declared.entry.Done.{Done}
 use Rattle.receiver.proofs.Overlays.{Stands, version_in, other_page}
 use Rattle.receiver.proofs.Steps.{Step, useless, no_room, applied, stepped, still_formed, copied, copy_part, full_run}
-use Rattle.receiver.proofs.Recovering.{Keeps, keeps-run, sets-step, given-run, no_place}
+use Rattle.receiver.proofs.Recovering.{Keeps, keeps_run, sets_step, given_run, no_place}
 use Rattle.receiver.proofs.Bytes.{shows_in_version}
 use Rattle.receiver.proofs.Orders.{copies_agree}
 
@@ -69,28 +69,28 @@ quiet_apply : (s : ℕ → Page) (f : Fragment) (n v r c x : ℕ) → f.page ≡
 unfolding apply overlay merge
 quiet_apply s f n v r c x pg ver low is =
     subst (Stands v r c x) (sym (cond-true (eqb n f.page) _ (s n) (eq-eqb _ _ (sym pg))))
-    (record { here = refl; version = version_in (s n) f.version ∙ ver; letter = cond-false (ltb 0 (f.letters r c)) _ _ (le-ltb 0 (f.letters r c) (not-above (f.letters r c) low)) ∙ ap (λ w. (in_version (s n) w).letters r c) ver ∙ is })
+    (record { here = refl; version = version_in (s n) f.version ∙ ver; letter = cond-false (ltb 0 (f.letters r c)) _ _ (le-ltb 0 (f.letters r c) (not_above (f.letters r c) low)) ∙ ap (λ w. (in_version (s n) w).letters r c) ver ∙ is })
   where
-    not-above : (y : ℕ) → (0 < y → ⊥) → y ≤ 0
-    not-above y none = ⊎_elim (λ lt. absurd (none lt)) (λ le. le) (cases_lt 0 y)
+    not_above : (y : ℕ) → (0 < y → ⊥) → y ≤ 0
+    not_above y none = ⊎_elim (λ lt. absurd (none lt)) (λ le. le) (cases_lt 0 y)
 
 module _ (n v r c x : ℕ) (hr : r < 25) (hc : c < 40) where
   -- no line has a letter there, and one is of the page: what the page in its version had stays
-  quiet-run : (b : List ℕ) → Of n b → (s s₁ : List ℕ) (ls : List (List ℕ)) (rs : List Done) → well_formed s ≡ true → ((l : List ℕ) → Among l ls → Of n l → (version_of l ≡ v) × (0 < letters_of l r c → ⊥)) → (in_version (page_in s n) v).letters r c ≡ x → Run s ls rs s₁ → Among b ls → Stands v r c x (page_in s₁ n) ⊎ NoRoom s₁ n
-  quiet-run b o _ _ _ _ ok f is (end s) i = elim i [ ]
-  quiet-run b o _ _ _ _ ok f is (step s l s₁ s₂ q ls rs a w) i =
+  quiet_run : (b : List ℕ) → Of n b → (s s₁ : List ℕ) (ls : List (List ℕ)) (rs : List Done) → well_formed s ≡ true → ((l : List ℕ) → Among l ls → Of n l → (version_of l ≡ v) × (0 < letters_of l r c → ⊥)) → (in_version (page_in s n) v).letters r c ≡ x → Run s ls rs s₁ → Among b ls → Stands v r c x (page_in s₁ n) ⊎ NoRoom s₁ n
+  quiet_run b o _ _ _ _ ok f is (end s) i = elim i [ ]
+  quiet_run b o _ _ _ _ ok f is (step s l s₁ s₂ q ls rs a w) i =
       let t = stepped l s s₁ q ok a in
       let rest : (k : List ℕ) → Among k ls → Of n k → (version_of k ≡ v) × (0 < letters_of k r c → ⊥) = λ k j. f k (there l ls j) in
       ⊎_elim
       (λ ol. let x₁ = f l (here ls) ol in
-      ⊎_elim (λ h. inl (keeps-run n v r c x hr hc s₁ s₂ ls rs (still_formed t ok) (λ k j g pg. let y = rest k j (record { readable = g; page = pg }) in (y.0, λ known. absurd (y.1 known))) w h)) (λ h. inr (full_run n s₁ s₂ ls rs (still_formed t ok) w h))
-      (sets-step n v r c x hr hc l s s₁ ol.readable ol.page (quiet_apply (page_in s) (fragment l) n v r c x ol.page x₁.0 x₁.1 is) t))
-      (λ nl. quiet-run b o s₁ s₂ ls rs (still_formed t ok) rest ((shows_in_version _ _ v (unmoved l s s₁ n nl t)).letters r c hr hc ∙ is) w (not-here b l ls o nl i))
+      ⊎_elim (λ h. inl (keeps_run n v r c x hr hc s₁ s₂ ls rs (still_formed t ok) (λ k j g pg. let y = rest k j (record { readable = g; page = pg }) in (y.0, λ known. absurd (y.1 known))) w h)) (λ h. inr (full_run n s₁ s₂ ls rs (still_formed t ok) w h))
+      (sets_step n v r c x hr hc l s s₁ ol.readable ol.page (quiet_apply (page_in s) (fragment l) n v r c x ol.page x₁.0 x₁.1 is) t))
+      (λ nl. quiet_run b o s₁ s₂ ls rs (still_formed t ok) rest ((shows_in_version _ _ v (unmoved l s s₁ n nl t)).letters r c hr hc ∙ is) w (not_here b l ls o nl i))
       (of_cases n l)
     where
-      not-here : (b l : List ℕ) (ls : List (List ℕ)) → Of n b → (Of n l → ⊥) → Among b (l ∷ ls) → Among b ls
-      not-here b _ ls o nl (here _) = absurd (nl o)
-      not-here b l ls o nl (there _ _ i) = i
+      not_here : (b l : List ℕ) (ls : List (List ℕ)) → Of n b → (Of n l → ⊥) → Among b (l ∷ ls) → Among b ls
+      not_here b _ ls o nl (here _) = absurd (nl o)
+      not_here b l ls o nl (there _ _ i) = i
 
 -- one place of the page, after two runs
 record Both (v r c : ℕ) (p q : Page) : Type 0 where
@@ -106,15 +106,15 @@ module _ (n v : ℕ) (s t s₁ t₁ : List ℕ) (ls ks : List (List ℕ)) (ps qs
       (λ g. let l = g.0 in let il = g.1 in let ol = g.2.0 in let known = g.2.1 in
       let jl = (same l ol).0 il in
       join r c (letters_of l r c)
-      (given-run n v r c (letters_of l r c) hr hc l ol.readable ol.page (cl.version l il ol) refl known s s₁ ls ps oks (keeps-all ls cl l il ol known) w il)
-      (given-run n v r c (letters_of l r c) hr hc l ol.readable ol.page (cl.version l il ol) refl known t t₁ ks qs okt (keeps-all ks ck l jl ol known) u jl))
+      (given_run n v r c (letters_of l r c) hr hc l ol.readable ol.page (cl.version l il ol) refl known s s₁ ls ps oks (keeps_all ls cl l il ol known) w il)
+      (given_run n v r c (letters_of l r c) hr hc l ol.readable ol.page (cl.version l il ol) refl known t t₁ ks qs okt (keeps_all ks ck l jl ol known) u jl))
       (λ f. join r c ((in_version (page_in s n) v).letters r c)
-      (quiet-run n v r c ((in_version (page_in s n) v).letters r c) hr hc b o s s₁ ls ps oks (λ l il ol. (cl.version l il ol, λ known. f l il (ol, known))) refl w i)
-      (quiet-run n v r c ((in_version (page_in s n) v).letters r c) hr hc b o t t₁ ks qs okt (λ l il ol. (ck.version l il ol, λ known. f l ((same l ol).1 il) (ol, known))) (sym ((shows_in_version _ _ v alike).letters r c hr hc)) u ((same b o).0 i)))
+      (quiet_run n v r c ((in_version (page_in s n) v).letters r c) hr hc b o s s₁ ls ps oks (λ l il ol. (cl.version l il ol, λ known. f l il (ol, known))) refl w i)
+      (quiet_run n v r c ((in_version (page_in s n) v).letters r c) hr hc b o t t₁ ks qs okt (λ l il ol. (ck.version l il ol, λ known. f l ((same l ol).1 il) (ol, known))) (sym ((shows_in_version _ _ v alike).letters r c hr hc)) u ((same b o).0 i)))
       (some (λ l. Of n l × (0 < letters_of l r c)) decide ls)
     where
-      keeps-all : (xs : List (List ℕ)) → Coherent n v xs → (l : List ℕ) → Among l xs → Of n l → 0 < letters_of l r c → (k : List ℕ) → Among k xs → Keeps n v r c (letters_of l r c) hr hc k
-      keeps-all xs co l il ol known k ik g pg = let ok₁ : Of n k = record { readable = g; page = pg } in (co.version k ik ok₁, λ bk. co.agree k l ik il ok₁ ol r c bk known)
+      keeps_all : (xs : List (List ℕ)) → Coherent n v xs → (l : List ℕ) → Among l xs → Of n l → 0 < letters_of l r c → (k : List ℕ) → Among k xs → Keeps n v r c (letters_of l r c) hr hc k
+      keeps_all xs co l il ol known k ik g pg = let ok₁ : Of n k = record { readable = g; page = pg } in (co.version k ik ok₁, λ bk. co.agree k l ik il ok₁ ol r c bk known)
 
       join : (r c x : ℕ) → Stands v r c x (page_in s₁ n) ⊎ NoRoom s₁ n → Stands v r c x (page_in t₁ n) ⊎ NoRoom t₁ n → Both v r c (page_in s₁ n) (page_in t₁ n) ⊎ (NoRoom s₁ n ⊎ NoRoom t₁ n)
       join r c x a b = ⊎_elim (λ p. ⊎_elim (λ q. inl (record { letter = x; left = p; right = q })) (λ q. inr (inr q)) b) (λ p. inr (inl p)) a
@@ -122,8 +122,8 @@ module _ (n v : ℕ) (s t s₁ t₁ : List ℕ) (ls ks : List (List ℕ)) (ps qs
       decide : (l : List ℕ) → (Of n l × (0 < letters_of l r c)) ⊎ (Of n l × (0 < letters_of l r c) → ⊥)
       decide l = ⊎_elim (λ o₁. ⊎_elim (λ lt. inl (o₁, lt)) (λ le. inr (λ p. absurd (omega (arith, p.1)))) (cases_lt 0 (letters_of l r c))) (λ no₁. inr (λ p. no₁ p.0)) (of_cases n l)
 
-  pub shown-same : ShowsSame (page_in s₁ n) (page_in t₁ n) ⊎ (NoRoom s₁ n ⊎ NoRoom t₁ n)
-  shown-same =
+  pub shown_same : ShowsSame (page_in s₁ n) (page_in t₁ n) ⊎ (NoRoom s₁ n ⊎ NoRoom t₁ n)
+  shown_same =
       ⊎_elim
       (λ b. let at = at_place b.0 b.2 b.1 in
       ⊎_elim
@@ -142,4 +142,4 @@ module _ (n v : ℕ) (s t s₁ t₁ : List ℕ) (ls ks : List (List ℕ)) (ps qs
 pub page_dependence : PageDependence
 page_dependence sent s t s₁ t₁ ls ks ps qs n v oks okt one ver cl ck same alike w u =
     ⊎_elim (λ a. inl a) (λ full. inr (⊎_elim (λ h. inl (no_place n s s₁ ls ps oks w h)) (λ h. inr (no_place n t t₁ ks qs okt u h)) full))
-    (shown-same n v s t s₁ t₁ ls ks ps qs oks okt (coherent sent ls n v one ver cl) (coherent sent ks n v one ver ck) (λ l o. same l o.readable o.page) alike w u)
+    (shown_same n v s t s₁ t₁ ls ks ps qs oks okt (coherent sent ls n v one ver cl) (coherent sent ks n v one ver ck) (λ l o. same l o.readable o.page) alike w u)

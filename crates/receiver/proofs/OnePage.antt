@@ -15,7 +15,7 @@ use Rattle.receiver.specs.declared.entry.Done.{Done}
 use Rattle.receiver.proofs.Steps.{Step, useless, no_room, applied, stepped, still_formed, same_length, copied, copy_part, formed_run, length_run}
 use Rattle.receiver.proofs.Bytes.{same_bytes, same_slot, has_room, run_same}
 use Rattle.receiver.proofs.Orders.{split}
-use Rattle.receiver.proofs.Dependence.{coherent, shown-same}
+use Rattle.receiver.proofs.Dependence.{coherent, shown_same}
 
 -- nothing changed, or only the slot that page n has
 abbrev PageOnly : (n : ℕ) (s s₁ : List ℕ) → Type 0
@@ -72,7 +72,7 @@ same_lines_same_bytes sent s a b ls ks ps qs n v ok one all cl ck same w u =
     let la = length_run s a ls ps ok w in let lb = length_run s b ks qs ok u in
     let x = page_run n s a ls ps ok (page ls cl) w in let y = page_run n s b ks qs ok (page ks ck) u in
     ⊎_elim (λ alike. meet n s a b ok (formed_run s a ls ps ok w) (formed_run s b ks qs ok u) la lb x y alike) (λ h. ⊎_elim (λ c. full_meet n s a b la x y c) (λ c. sym (full_meet n s b a lb y x c)) h)
-    (shown-same n v s s a b ls ks ps qs ok ok (coherent sent ls n v one ver cl) (coherent sent ks n v one ver ck) (λ l _. same l) (shows_refl (page_in s n)) w u)
+    (shown_same n v s s a b ls ks ps qs ok ok (coherent sent ls n v one ver cl) (coherent sent ks n v one ver ck) (λ l _. same l) (shows_refl (page_in s n)) w u)
 
 pub reordering : Reordering
 reordering sent s e₁ e₂ before ls ks after ps qs n v ok one all cl ck same x y =

@@ -5,7 +5,7 @@ use Rattle.line.specs.Line.{Fragment, meaning}
 use Rattle.line.specs.Damage.{Copy}
 use Rattle.line.specs.Reading.{page_of, version_of, readable, fragment}
 use Rattle.line.specs.declared.Line.{Line}
-use Rattle.line.proofs.Copies.{reads-part}
+use Rattle.line.proofs.Copies.{reads_part}
 use Rattle.store.specs.Page.{Page, in_version, merge, overlay, apply, ShowsSame}
 use Rattle.store.specs.Layout.{slots, holds, well_formed, page_in}
 use Rattle.store.specs.Slots.{OnlySlot, NoRoom, InSlot, Applied}
@@ -134,7 +134,7 @@ useless_step l s s₁ g (applied h e) = absurd (both_ways _ g h)
 -- copies of lines of which there is one text agree
 pub copies_agree : (a b : Line) (k l : List ℕ) → Copy a k → Copy b l → readable k ≡ true → readable l ≡ true → Agree (meaning a) (meaning b) → Agree (fragment k) (fragment l)
 copies_agree a b k l ca cb gk gl ag r c x y =
-    let pa = (reads-part a k ca gk).letters r c x in let pb = (reads-part b l cb gl).letters r c y in
+    let pa = (reads_part a k ca gk).letters r c x in let pb = (reads_part b l cb gl).letters r c y in
     pa ∙ ag r c (subst (λ z. 0 < z) pa x) (subst (λ z. 0 < z) pb y) ∙ sym pb
 
 swap_steps : (a b : Line) (k l s s₁ s₂ t₁ t₂ : List ℕ) → well_formed s ≡ true → Copy a k → Copy b l → a.page ≡ b.page → a.version ≡ b.version → OneText (a ∷ (b ∷ [])) →
@@ -142,7 +142,7 @@ swap_steps : (a b : Line) (k l s s₁ s₂ t₁ t₂ : List ℕ) → well_formed
 swap_steps a b k l s s₁ s₂ t₁ t₂ ok ca cb pg ver one x y z v =
     ⊎_elim
     (λ gk. ⊎_elim
-    (λ gl. let ra = reads-part a k ca gk in let rb = reads-part b l cb gl in
+    (λ gl. let ra = reads_part a k ca gk in let rb = reads_part b l cb gl in
     swap_readable k l s s₁ s₂ t₁ t₂ ok gk gl (ra.page ∙ pg ∙ sym rb.page) (ra.version ∙ ver ∙ sym rb.version) (copies_agree a b k l ca cb gk gl (one a b (here _) (there _ _ (here _)) pg ver)) x y z v)
     (λ el. useless_step l s₁ s₂ el y ∙ step_same k s s₁ t₂ ok x (subst (λ t. Step k t t₂) (useless_step l s t₁ el z) v)) (cases_Bool (readable l)))
     (λ ek. step_same l s s₂ t₁ ok (subst (λ t. Step l t s₂) (useless_step k s s₁ ek x) y) z ∙ sym (useless_step k t₁ t₂ ek v)) (cases_Bool (readable k))

@@ -4,7 +4,7 @@ use Rattle.std.proofs.lemmas.Bool.{and_parts, ltb-true, cases_Bool, both_ways}
 use Rattle.line.specs.Line.{meaning}
 use Rattle.line.specs.Reading.{page_of, version_of, letters_of, readable, fragment}
 use Rattle.line.specs.declared.Line.{Line}
-use Rattle.line.proofs.Copies.{reads-part, reads_brought}
+use Rattle.line.proofs.Copies.{reads_part, reads_brought}
 use Rattle.store.specs.Page.{apply}
 use Rattle.store.specs.Layout.{letter_at, holds, well_formed, page_in}
 use Rattle.store.specs.Slots.{NoRoom}
@@ -22,34 +22,34 @@ module _ (n v r c x : ℕ) (hr : r < 25) (hc : c < 40) where
   abbrev pub Keeps : List ℕ → Type 0
   Keeps l = readable l ≡ true → page_of l ≡ n → (version_of l ≡ v) × (0 < letters_of l r c → letters_of l r c ≡ x)
 
-  keeps-step : (l s s₁ : List ℕ) → Keeps l → Step l s s₁ → Stands v r c x (page_in s n) → Stands v r c x (page_in s₁ n)
-  keeps-step l s s₁ f (useless g e) h = subst (λ t. Stands v r c x (page_in t n)) (sym e) h
-  keeps-step l s s₁ f (no_room g w e) h = subst (λ t. Stands v r c x (page_in t n)) (sym e) h
-  keeps-step l s s₁ f (applied g w) h =
+  keeps_step : (l s s₁ : List ℕ) → Keeps l → Step l s s₁ → Stands v r c x (page_in s n) → Stands v r c x (page_in s₁ n)
+  keeps_step l s s₁ f (useless g e) h = subst (λ t. Stands v r c x (page_in t n)) (sym e) h
+  keeps_step l s s₁ f (no_room g w e) h = subst (λ t. Stands v r c x (page_in t n)) (sym e) h
+  keeps_step l s s₁ f (applied g w) h =
       shows_stands v r c x _ _ hr hc (w.pages n) (keeps_apply (page_in s) (fragment l) n v r c x (λ pg. (f g pg).0) (λ pg. (f g pg).1) h)
 
-  pub keeps-run : (s s₁ : List ℕ) (ls : List (List ℕ)) (rs : List Done) → well_formed s ≡ true → ((l : List ℕ) → Among l ls → Keeps l) → Run s ls rs s₁ → Stands v r c x (page_in s n) → Stands v r c x (page_in s₁ n)
-  keeps-run _ _ _ _ ok f (end s) h = h
-  keeps-run _ _ _ _ ok f (step s l s₁ s₂ q ls rs a w) h =
+  pub keeps_run : (s s₁ : List ℕ) (ls : List (List ℕ)) (rs : List Done) → well_formed s ≡ true → ((l : List ℕ) → Among l ls → Keeps l) → Run s ls rs s₁ → Stands v r c x (page_in s n) → Stands v r c x (page_in s₁ n)
+  keeps_run _ _ _ _ ok f (end s) h = h
+  keeps_run _ _ _ _ ok f (step s l s₁ s₂ q ls rs a w) h =
       let t = stepped l s s₁ q ok a in
-      keeps-run s₁ s₂ ls rs (still_formed t ok) (λ k i. f k (there l ls i)) w (keeps-step l s s₁ (f l (here ls)) t h)
+      keeps_run s₁ s₂ ls rs (still_formed t ok) (λ k i. f k (there l ls i)) w (keeps_step l s s₁ (f l (here ls)) t h)
 
   -- a line of the page after which the letter stands: so it does, or there is no room
-  pub sets-step : (l s s₁ : List ℕ) → readable l ≡ true → page_of l ≡ n → Stands v r c x (apply (page_in s) (fragment l) n) → Step l s s₁ → Stands v r c x (page_in s₁ n) ⊎ NoRoom s₁ n
-  sets-step l s s₁ good pg h (useless g e) = absurd (both_ways _ g good)
-  sets-step l s s₁ good pg h (no_room g w e) = inr (subst (λ t. NoRoom t n) (sym e) (subst (NoRoom s) pg w))
-  sets-step l s s₁ good pg h (applied g w) = inl (shows_stands v r c x _ _ hr hc (w.pages n) h)
+  pub sets_step : (l s s₁ : List ℕ) → readable l ≡ true → page_of l ≡ n → Stands v r c x (apply (page_in s) (fragment l) n) → Step l s s₁ → Stands v r c x (page_in s₁ n) ⊎ NoRoom s₁ n
+  sets_step l s s₁ good pg h (useless g e) = absurd (both_ways _ g good)
+  sets_step l s s₁ good pg h (no_room g w e) = inr (subst (λ t. NoRoom t n) (sym e) (subst (NoRoom s) pg w))
+  sets_step l s s₁ good pg h (applied g w) = inl (shows_stands v r c x _ _ hr hc (w.pages n) h)
 
   -- a line that has the letter came in a run of lines that keep it
-  pub given-run : (b : List ℕ) → readable b ≡ true → page_of b ≡ n → version_of b ≡ v → letters_of b r c ≡ x → 0 < x →
+  pub given_run : (b : List ℕ) → readable b ≡ true → page_of b ≡ n → version_of b ≡ v → letters_of b r c ≡ x → 0 < x →
       (s s₁ : List ℕ) (ls : List (List ℕ)) (rs : List Done) → well_formed s ≡ true → ((l : List ℕ) → Among l ls → Keeps l) → Run s ls rs s₁ → Among b ls → Stands v r c x (page_in s₁ n) ⊎ NoRoom s₁ n
-  given-run b good pg ver is known _ _ _ _ ok f (end s) i = elim i [ ]
-  given-run b good pg ver is known _ _ _ _ ok f (step s _ s₁ s₂ q ls rs a w) (here _) =
+  given_run b good pg ver is known _ _ _ _ ok f (end s) i = elim i [ ]
+  given_run b good pg ver is known _ _ _ _ ok f (step s _ s₁ s₂ q ls rs a w) (here _) =
       let t = stepped b s s₁ q ok a in
-      ⊎_elim (λ h. inl (keeps-run s₁ s₂ ls rs (still_formed t ok) (λ k j. f k (there b ls j)) w h)) (λ h. inr (full_run n s₁ s₂ ls rs (still_formed t ok) w h))
-      (sets-step b s s₁ good pg (sets_apply (page_in s) (fragment b) n v r c x pg ver is known) t)
-  given-run b good pg ver is known _ _ _ _ ok f (step s l s₁ s₂ q ls rs a w) (there _ _ i) =
-      given-run b good pg ver is known s₁ s₂ ls rs (still_formed (stepped l s s₁ q ok a) ok) (λ k j. f k (there l ls j)) w i
+      ⊎_elim (λ h. inl (keeps_run s₁ s₂ ls rs (still_formed t ok) (λ k j. f k (there b ls j)) w h)) (λ h. inr (full_run n s₁ s₂ ls rs (still_formed t ok) w h))
+      (sets_step b s s₁ good pg (sets_apply (page_in s) (fragment b) n v r c x pg ver is known) t)
+  given_run b good pg ver is known _ _ _ _ ok f (step s l s₁ s₂ q ls rs a w) (there _ _ i) =
+      given_run b good pg ver is known s₁ s₂ ls rs (still_formed (stepped l s s₁ q ok a) ok) (λ k j. f k (there l ls j)) w i
 
 -- what comes of lines of one version and one text keeps each letter
 pub comes_keep : (sent : List Line) (ls : List (List ℕ)) (n v r c : ℕ) (m : Line) → WhatComes sent ls → OneText sent → OneVersion sent n v → Among m sent → m.page ≡ n → 0 < (meaning m).letters r c →
@@ -75,9 +75,9 @@ brought_run : (sent : List Line) (s s₁ : List ℕ) (ls : List (List ℕ)) (rs 
 brought_run sent s s₁ ls rs n v r c ok come one ver w b =
     let m = b.line in
     let read = reads_brought b.bytes m r c b.brings in
-    let part = reads-part m b.bytes b.brings.copy read.0 in
+    let part = reads_part m b.bytes b.brings.copy read.0 in
     let row : r < 25 = subst (λ k. k < 25) b.brings.row b.brings.copy.valid.row in
-    given-run n v r c ((meaning m).letters r c) row b.brings.column b.bytes read.0 (part.page ∙ b.page) (part.version ∙ ver m b.among b.page) read.2 read.1 s s₁ ls rs ok
+    given_run n v r c ((meaning m).letters r c) row b.brings.column b.bytes read.0 (part.page ∙ b.page) (part.version ∙ ver m b.among b.page) read.2 read.1 s s₁ ls rs ok
     (comes_keep sent ls n v r c m come one ver b.among b.page read.1) w b.came
 
 pub recovery : (s s₁ : List ℕ) (ls : List (List ℕ)) (rs : List Done) → well_formed s ≡ true → Run s ls rs s₁ → Recovery s ls s₁

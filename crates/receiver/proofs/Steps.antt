@@ -6,7 +6,7 @@ use Rattle.line.specs.Laws.{PartOf}
 use Rattle.line.specs.Reading.{page_of, readable, fragment}
 use Rattle.line.specs.declared.Line.{Line}
 use Rattle.line.proofs.Readability.{readable_parts, unreadable}
-use Rattle.line.proofs.Copies.{reads-part}
+use Rattle.line.proofs.Copies.{reads_part}
 use Rattle.store.specs.Layout.{slots, mark_at, holds, well_formed}
 use Rattle.store.specs.Slots.{NoRoom, InSlot, Applied}
 use Rattle.store.proofs.Formed.{holds_parts, holds_not, other_mark, other_holds, same_slots}
@@ -69,8 +69,8 @@ module _ (n : ℕ) (s s₁ : List ℕ) (i : ℕ) (w : InSlot n s s₁ i) where
       (λ ne. other_holds s s₁ i w.only m j ne ∙ e) (cases_eq j i)
 
   -- a store without room for a page stays so
-  full-kept : (m : ℕ) → NoRoom s m → (j : ℕ) → j < slots s → (holds s₁ m j ≡ false) × (mark_at s₁ j ≡ 0 → ⊥)
-  full-kept m full j h =
+  full_kept : (m : ℕ) → NoRoom s m → (j : ℕ) → j < slots s → (holds s₁ m j ≡ false) × (mark_at s₁ j ≡ 0 → ⊥)
+  full_kept m full j h =
       ⊎_elim (λ same. subst (λ k. (holds s₁ m k ≡ false) × (mark_at s₁ k ≡ 0 → ⊥)) (sym same)
       (let x = holds_parts s₁ n i w.here in (
         holds_not s₁ m i (inr (λ e. ⊎_elim (λ old. both_ways _ (full.absent i w.within) (subst (λ q. holds s q i ≡ true) (sym x.1 ∙ e) old)) (λ new. full.taken i w.within new.free) w.was)),
@@ -87,7 +87,7 @@ pub full_step : {l s s₁ : List ℕ} (n : ℕ) → Step l s s₁ → NoRoom s n
 full_step n (useless g e) h = subst (λ t. NoRoom t n) (sym e) h
 full_step n (no_room g w e) h = subst (λ t. NoRoom t n) (sym e) h
 full_step {l} {s} {s₁} n (applied g w) h =
-    let both : (j : ℕ) → j < slots s₁ → (holds s₁ n j ≡ false) × (mark_at s₁ j ≡ 0 → ⊥) = λ j lt. full-kept (page_of l) s s₁ w.slot.0 w.slot.1 n h j (subst (λ k. j < k) (same_slots s s₁ w.long) lt) in
+    let both : (j : ℕ) → j < slots s₁ → (holds s₁ n j ≡ false) × (mark_at s₁ j ≡ 0 → ⊥) = λ j lt. full_kept (page_of l) s s₁ w.slot.0 w.slot.1 n h j (subst (λ k. j < k) (same_slots s s₁ w.long) lt) in
     record { absent = λ j lt. (both j lt).0; taken = λ j lt. (both j lt).1 }
 
 -- a line that can be made out is a copy of one that was sent, and says only what that one says
@@ -95,7 +95,7 @@ pub copied : (sent : List Line) (l : List ℕ) → readable l ≡ true → (leng
 copied sent l g come = ⊎_elim (λ ne. absurd (ne (readable_parts l g).long)) (λ a. a) come
 
 pub copy_part : (sent : List Line) (l : List ℕ) → readable l ≡ true → (a : CopyOfSent sent l) → PartOf (fragment l) (meaning a.line)
-copy_part sent l g a = reads-part a.line l a.copy g
+copy_part sent l g a = reads_part a.line l a.copy g
 
 -- RUNS
 

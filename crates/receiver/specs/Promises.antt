@@ -57,7 +57,8 @@ Continue ls s rs s₁ =
 
 -- one call more
 abbrev pub Continues : (l s : List ℕ) → Done → List ℕ → Type 0
-Continues l s r s₁ = Continue (l ∷ []) s (r ∷ []) s₁
+Continues l s r s₁ =
+    (s₀ : List ℕ) (ls : List (List ℕ)) (rs : List Done) → well_formed s₀ ≡ true → Run s₀ ls rs s → RunPromises s₀ (ls ++ (l ∷ [])) (rs ++ (r ∷ [])) s₁
 
 -- DETECTION: a copy of a line in which two bits of a number's byte are turned is lost, and all stays but the count of lost lines; byte 3 has the version's ones
 abbrev pub TwoTurnedLost : (l s : List ℕ) (k : Counts) → Done → List ℕ → Counts → Type 0

@@ -97,9 +97,9 @@ Comes n x k y = ((x + k < n) × (y ≡ x + k)) ⊎ ((n ≤ x + k) × (y + n ≡ 
 comes_more : (n x k y z : ℕ) → x < n → suc k < n → Comes n x k y → z ≡ in_range n (y + 1) → Comes n x (suc k) z
 comes_more n x k y z hx hk way e =
     ⊎_elim
-    (λ h. let z-is : z ≡ y + 1 = e ∙ within n (y + 1) h in
+    (λ h. let z_is : z ≡ y + 1 = e ∙ within n (y + 1) h in
     ⊎_elim (λ a. inl (omega arith, omega arith)) (λ b. inr (omega arith, omega arith)) way)
-    (λ h. let z-is : z ≡ 0 = e ∙ beyond n (y + 1) h in
+    (λ h. let z_is : z ≡ 0 = e ∙ beyond n (y + 1) h in
     ⊎_elim (λ a. inr (omega arith, omega arith)) (λ b. absurd (omega arith)) way)
     (cases_lt (y + 1) n)
 

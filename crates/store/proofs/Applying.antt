@@ -14,7 +14,7 @@ use Rattle.store.specs.Writes.{row_start, Found, Free, Begun, Claimed, Merged}
 use Rattle.store.proofs.Formed.{holds_from, holds_not, holds_parts, holds_same, same_slots}
 use Rattle.store.proofs.Pages.{shows_then, shows_is, page_held, slot_letter, slot_there, slot_version, absent_there, other_pages}
 use Rattle.store.proofs.Listing.{lists_same, taken_same}
-use Rattle.store.proofs.Writing.{merged-only, merged-mark, merged-number, merged-marks, merged-holds, merged-formed}
+use Rattle.store.proofs.Writing.{merged_only, merged_mark, merged_number, merged_marks, merged_holds, merged_formed}
 
 in_version_kept : (s : List ℕ) (i v : ℕ) → version_at s i ≡ v → in_version (slot_page s i) v ≡ slot_page s i
 unfolding in_version slot_page
@@ -52,7 +52,7 @@ claimed_free s t n v i absent w b =
     claimed_begun s t n v i w.within b (and_left _ _ (absent_there s n absent)) (inr (record { absent = absent; free = w.here; before = w.before }))
 
 -- the line's letters over the page in its slot
-merged_page : (s t l : List ℕ) (i : ℕ) (p : Page) → row_of l < 25 → ShowsSame (slot_page s i) p → Merged s l t (row_start i (row_of l)) 6 40 → ShowsSame (slot_page t i) (overlay p (fragment l))
+merged_page : (s t l : List ℕ) (i : ℕ) (p : Page) → row_of l < 25 → ShowsSame (slot_page s i) p → Merged s l t (row_start i (row_of l)) 40 → ShowsSame (slot_page t i) (overlay p (fragment l))
 unfolding overlay letters_of merge
 merged_page s t l i p row a w = record {
   there = slot_there t i;
@@ -78,17 +78,17 @@ only_page s n i m was ne =
     holds_not s m i (⊎_elim (λ e. inr (λ is. ne (sym is ∙ (holds_parts s n i e).1))) (λ w. inl (λ on. absurd (omega (arith, w.free, on)))) was)
 
 pub applied : (s t u l : List ℕ) (i : ℕ) (h : Header) → HeaderOf l h → ((k : ℕ) → get_or l k 0 < 256) → well_formed t ≡ true → length t ≡ length s → length u ≡ length t →
-    Claimed s t h.page h.version i → Merged t l u (row_start i h.row) 6 40 → Applied (fragment l) s u
+    Claimed s t h.page h.version i → Merged t l u (row_start i h.row) 40 → Applied (fragment l) s u
 unfolding apply
 applied s t u l i h head bytes ok long long₂ claimed merged =
     let n = page_of l in
     let p : Claimed s t n (version_of l) i = subst (λ x. Claimed s t x (version_of l) i) head.page (subst (λ x. Claimed s t h.page x i) head.version claimed) in
-    let w : Merged t l u (row_start i (row_of l)) 6 40 = subst (λ x. Merged t l u (row_start i x) 6 40) head.row merged in
+    let w : Merged t l u (row_start i (row_of l)) 40 = subst (λ x. Merged t l u (row_start i x) 40) head.row merged in
     let row : row_of l < 25 = (readable_parts l head.readable).row in
     let within : i < slots t = subst (λ k. i < k) (sym (same_slots s t long)) p.within in
-    let formed-u = merged-formed t l u i (row_of l) within row long₂ bytes w ok in
-    let only : OnlySlot s u i = λ k out. merged-only t l u i (row_of l) within row long₂ bytes w k out ∙ p.only k out in
-    let here : holds u n i ≡ true = holds_same t u n i (merged-mark t l u i (row_of l) within row long₂ bytes w) (merged-number t l u i (row_of l) within row long₂ bytes w) ∙ p.here in
+    let formed-u = merged_formed t l u i (row_of l) within row long₂ bytes w ok in
+    let only : OnlySlot s u i = λ k out. merged_only t l u i (row_of l) within row long₂ bytes w k out ∙ p.only k out in
+    let here : holds u n i ≡ true = holds_same t u n i (merged_mark t l u i (row_of l) within row long₂ bytes w) (merged_number t l u i (row_of l) within row long₂ bytes w) ∙ p.here in
     let held = page_held u n i formed-u (subst (λ k. i < k) (sym (same_slots s u (long₂ ∙ long))) p.within) here in
     record {
       long = long₂ ∙ long;
@@ -102,11 +102,11 @@ applied s t u l i h head bytes ok long long₂ claimed merged =
     }
 
 -- a line's letters leave each page in its slot
-pub lists_merged : (t u l : List ℕ) (d : Directory) (i : ℕ) (h : Header) → HeaderOf l h → ((k : ℕ) → get_or l k 0 < 256) → i < slots t → length u ≡ length t → Merged t l u (row_start i h.row) 6 40 → Lists t d → Lists u d
+pub lists_merged : (t u l : List ℕ) (d : Directory) (i : ℕ) (h : Header) → HeaderOf l h → ((k : ℕ) → get_or l k 0 < 256) → i < slots t → length u ≡ length t → Merged t l u (row_start i h.row) 40 → Lists t d → Lists u d
 lists_merged t u l d i h head bytes within long merged w =
-    let m : Merged t l u (row_start i (row_of l)) 6 40 = subst (λ x. Merged t l u (row_start i x) 6 40) head.row merged in
+    let m : Merged t l u (row_start i (row_of l)) 40 = subst (λ x. Merged t l u (row_start i x) 40) head.row merged in
     let row : row_of l < 25 = (readable_parts l head.readable).row in
     record {
-      pages = lists_same t u d.entries long (merged-holds t l u i (row_of l) within row long bytes m) w.pages;
-      taken = taken_same t u d.taken long (merged-marks t l u i (row_of l) within row long bytes m) w.taken;
+      pages = lists_same t u d.entries long (merged_holds t l u i (row_of l) within row long bytes m) w.pages;
+      taken = taken_same t u d.taken long (merged_marks t l u i (row_of l) within row long bytes m) w.taken;
     }

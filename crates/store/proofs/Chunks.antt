@@ -7,7 +7,7 @@ use Rattle.std.proofs.lemmas.List.{get_or_append_left, get_or-append_right}
 use Rattle.std.proofs.lemmas.Bool.{cases_lt}
 use Rattle.coding.specs.Parity.{decode_letter}
 use Rattle.store.specs.Page.{merge}
-use Rattle.store.specs.Writes.{Merged}
+use Rattle.store.specs.Writes.{MergedFrom}
 
 abbrev merged : ℕ → ℕ → ℕ
 merged x y = merge (decode_letter x) y
@@ -24,23 +24,23 @@ module _ (n : ℕ) (s l : List ℕ) (at from : ℕ) (hs : at + n ≤ length s) (
   abbrev lanes : List ℕ
   lanes = zip2 merged (chunk 0 n (take n (drop from l))) (chunk 0 n (take n (drop at s)))
 
-  long-came : length (chunk 0 n (take n (drop from l))) ≡ n
-  long-came = length-chunk 0 n _ (omega (arith, part_length n from l hl))
+  long_came : length (chunk 0 n (take n (drop from l))) ≡ n
+  long_came = length-chunk 0 n _ (omega (arith, part_length n from l hl))
 
-  long-old : length (chunk 0 n (take n (drop at s))) ≡ n
-  long-old = length-chunk 0 n _ (omega (arith, part_length n at s hs))
+  long_old : length (chunk 0 n (take n (drop at s))) ≡ n
+  long_old = length-chunk 0 n _ (omega (arith, part_length n at s hs))
 
   long : length lanes ≡ n
-  long = length-zip2 merged _ _ (long-came ∙ sym long-old) ∙ long-came
+  long = length-zip2 merged _ _ (long_came ∙ sym long_old) ∙ long_came
 
   front : length (take at s) ≡ at
   front = length-take-le at s (omega arith)
 
-  lanes-stored : Merged s l (put_mid at n s lanes) at from n
-  lanes-stored = record {
+  lanes_stored : MergedFrom s l (put_mid at n s lanes) at from n
+  lanes_stored = record {
     inside = λ c h.
         get_or-append_right (take at s) (lanes ++ post_of at n s) at (at + c) 0 front (omega arith) ∙ ap (λ x. get_or (lanes ++ post_of at n s) x 0) (behind c)
-        ∙ get_or_append_left lanes (post_of at n s) 0 c (omega (arith, long)) ∙ get_or-zip2 merged _ _ c 0 0 0 (omega (arith, long-came)) (omega (arith, long-old))
+        ∙ get_or_append_left lanes (post_of at n s) 0 c (omega (arith, long)) ∙ get_or-zip2 merged _ _ c 0 0 0 (omega (arith, long_came)) (omega (arith, long_old))
         ∙ ap (λ x. merged x (get_or (chunk 0 n (take n (drop at s))) c 0)) (loaded n from l c h) ∙ ap (merged (get_or l (from + c) 0)) (loaded n at s c h);
     outside = λ k h. ⊎_elim
         (λ lo. get_or_append_left (take at s) (lanes ++ post_of at n s) 0 k (omega (arith, front)) ∙ get_or-take at s k 0 lo)
@@ -55,16 +55,16 @@ module _ (n : ℕ) (s l : List ℕ) (at from : ℕ) (hs : at + n ≤ length s) (
       back k hi = omega arith
 
   -- as the code has it, with the lengths of the parts as it computes them
-  pub chunk-merged : (k j : ℕ) (r : List ℕ) → k ≡ n → j ≡ n → r ≡ zip2 merged (chunk 0 n (take j (drop from l))) (chunk 0 n (take k (drop at s))) → Merged s l (put_mid at k s (put_chunk 0 (take k (drop at s)) r)) at from n
-  chunk-merged k j r ek ej is =
+  pub chunk_merged : (k j : ℕ) (r : List ℕ) → k ≡ n → j ≡ n → r ≡ zip2 merged (chunk 0 n (take j (drop from l))) (chunk 0 n (take k (drop at s))) → MergedFrom s l (put_mid at k s (put_chunk 0 (take k (drop at s)) r)) at from n
+  chunk_merged k j r ek ej is =
       let is₁ : r ≡ lanes = is ∙ ap (λ x. zip2 merged (chunk 0 n (take x (drop from l))) (chunk 0 n (take k (drop at s)))) ej ∙ ap (λ x. zip2 merged (chunk 0 n (take n (drop from l))) (chunk 0 n (take x (drop at s)))) ek in
       let whole : put_chunk 0 (take n (drop at s)) lanes ≡ lanes = put_chunk_whole _ _ (part_length n at s hs ∙ sym long) in
       let all : put_mid at k s (put_chunk 0 (take k (drop at s)) r) ≡ put_mid at n s lanes =
       ap (λ x. put_mid at x s (put_chunk 0 (take x (drop at s)) r)) ek ∙ ap (λ x. put_mid at n s (put_chunk 0 (take n (drop at s)) x)) is₁ ∙ ap (put_mid at n s) whole in
-      subst (λ t. Merged s l t at from n) (sym all) lanes-stored
+      subst (λ t. MergedFrom s l t at from n) (sym all) lanes_stored
 
 -- n letters and then m behind them
-pub chunk_more : (s l t u : List ℕ) (at from at₂ from₂ n m : ℕ) → at₂ ≡ at + n → from₂ ≡ from + n → Merged s l t at from n → Merged t l u at₂ from₂ m → Merged s l u at from (n + m)
+pub chunk_more : (s l t u : List ℕ) (at from at₂ from₂ n m : ℕ) → at₂ ≡ at + n → from₂ ≡ from + n → MergedFrom s l t at from n → MergedFrom t l u at₂ from₂ m → MergedFrom s l u at from (n + m)
 chunk_more s l t u at from at₂ from₂ n m ea ef p q = record {
   inside = λ c h. ⊎_elim
       (λ lt. q.outside (at + c) (inl (omega arith)) ∙ p.inside c lt)

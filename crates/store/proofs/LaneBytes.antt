@@ -49,12 +49,12 @@ lane b o h =
     let q = and_parts _ _ p.0 in
     ⊎_elim
     (λ t. cond-true (is_one b) _ _ t ∙ eqb-true _ _ (implied (is_one b) _ p.1 t) ∙ sym (cond-true (ltb 0 (decode_letter b)) _ _ (implied (is_one b) _ q.0 t)))
-    (λ f. cond-false (is_one b) _ _ f ∙ sym (cond-false (ltb 0 (decode_letter b)) _ _ (not-implied (ltb 0 (decode_letter b)) (is_one b) q.1 f)))
+    (λ f. cond-false (is_one b) _ _ f ∙ sym (cond-false (ltb 0 (decode_letter b)) _ _ (not_implied (ltb 0 (decode_letter b)) (is_one b) q.1 f)))
     (cases_Bool (is_one b))
   where
-    not-implied : (x y : Bool) → (x implies y) ≡ true → y ≡ false → x ≡ false
-    not-implied true y e f = sym e ∙ f
-    not-implied false y e f = refl
+    not_implied : (x y : Bool) → (x implies y) ≡ true → y ≡ false → x ≡ false
+    not_implied true y e f = sym e ∙ f
+    not_implied false y e f = refl
 
 cons : {a b : ℕ} {xs ys : List ℕ} → a ≡ b → xs ≡ ys → ◌≡◌ {A = List ℕ} (a ∷ xs) (b ∷ ys)
 cons p q = cc

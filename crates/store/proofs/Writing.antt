@@ -48,24 +48,24 @@ unfolding merge letter_fine
 merge_fine b old h fine = cond_both (ltb 0 (decode_letter b)) (decode_letter b) old (λ y. letter_fine y ≡ true) (λ _. letter_or_none b h) (λ _. fine)
 
 -- a line merged into a row of slot i
-module _ (s l t : List ℕ) (i r : ℕ) (hi : i < slots s) (hr : r < 25) (long : length t ≡ length s) (bytes : (k : ℕ) → get_or l k 0 < 256) (w : Merged s l t (row_start i r) 6 40) where
-  pub merged-only : OnlySlot s t i
-  merged-only k h = w.outside k (⊎_elim (λ lt. inl (omega arith)) (λ le. inr (omega arith)) h)
+module _ (s l t : List ℕ) (i r : ℕ) (hi : i < slots s) (hr : r < 25) (long : length t ≡ length s) (bytes : (k : ℕ) → get_or l k 0 < 256) (w : Merged s l t (row_start i r) 40) where
+  pub merged_only : OnlySlot s t i
+  merged_only k h = w.outside k (⊎_elim (λ lt. inl (omega arith)) (λ le. inr (omega arith)) h)
 
-  pub merged-mark : mark_at t i ≡ mark_at s i
-  merged-mark = w.outside (1003 * i) (inl (omega arith))
+  pub merged_mark : mark_at t i ≡ mark_at s i
+  merged_mark = w.outside (1003 * i) (inl (omega arith))
 
-  pub merged-number : number_at t i ≡ number_at s i
-  merged-number = w.outside (1003 * i + 1) (inl (omega arith))
+  pub merged_number : number_at t i ≡ number_at s i
+  merged_number = w.outside (1003 * i + 1) (inl (omega arith))
 
-  pub merged-marks : (j : ℕ) → mark_at t j ≡ mark_at s j
-  merged-marks j = ⊎_elim (λ e. rw e merged-mark) (λ ne. other_mark s t i merged-only j ne) (cases_eq j i)
+  pub merged_marks : (j : ℕ) → mark_at t j ≡ mark_at s j
+  merged_marks j = ⊎_elim (λ e. rw e merged_mark) (λ ne. other_mark s t i merged_only j ne) (cases_eq j i)
 
-  pub merged-holds : (n j : ℕ) → holds t n j ≡ holds s n j
-  merged-holds n j = ⊎_elim (λ e. rw e (holds_same s t n i merged-mark merged-number)) (λ ne. other_holds s t i merged-only n j ne) (cases_eq j i)
+  pub merged_holds : (n j : ℕ) → holds t n j ≡ holds s n j
+  merged_holds n j = ⊎_elim (λ e. rw e (holds_same s t n i merged_mark merged_number)) (λ ne. other_holds s t i merged_only n j ne) (cases_eq j i)
 
-  letters-stay : well_formed s ≡ true → (k : ℕ) → k < 1000 → letter_fine (get_or t (1003 * i + 3 + k) 0) ≡ true
-  letters-stay ok k h =
+  letters_stay : well_formed s ≡ true → (k : ℕ) → k < 1000 → letter_fine (get_or t (1003 * i + 3 + k) 0) ≡ true
+  letters_stay ok k h =
       let old : letter_fine (get_or s (1003 * i + 3 + k) 0) ≡ true = (formed s ok).letters i k hi h in
       let kept : (1003 * i + 3 + k < row_start i r) ⊎ (row_start i r + 40 ≤ 1003 * i + 3 + k) → letter_fine (get_or t (1003 * i + 3 + k) 0) ≡ true = λ out. ap letter_fine (w.outside (1003 * i + 3 + k) out) ∙ old in
       ⊎_elim (λ lt. kept (inl lt))
@@ -81,7 +81,7 @@ module _ (s l t : List ℕ) (i r : ℕ) (hi : i < slots s) (hr : r < 25) (long :
           subst (λ j. letter_fine (get_or t j 0) ≡ true) at
           (ap letter_fine (w.inside c (omega arith)) ∙ merge_fine (get_or l (6 + c) 0) (get_or s (row_start i r + c) 0) (bytes (6 + c)) (subst (λ j. letter_fine (get_or s j 0) ≡ true) (sym at) old))
 
-  pub merged-formed : well_formed s ≡ true → well_formed t ≡ true
-  merged-formed ok =
-      changed_slot s t i ok hi long merged-only (subst (λ x. x ≤ 1) (sym merged-mark) ((formed s ok).marks i hi)) (letters-stay ok)
-      (λ j hj ne on. ap (λ m. holds s m j) merged-number ∙ no_other s (number_at s i) i ok hi (holds_from s (number_at s i) i (sym merged-mark ∙ on) refl) j hj ne)
+  pub merged_formed : well_formed s ≡ true → well_formed t ≡ true
+  merged_formed ok =
+      changed_slot s t i ok hi long merged_only (subst (λ x. x ≤ 1) (sym merged_mark) ((formed s ok).marks i hi)) (letters_stay ok)
+      (λ j hj ne on. ap (λ m. holds s m j) merged_number ∙ no_other s (number_at s i) i ok hi (holds_from s (number_at s i) i (sym merged_mark ∙ on) refl) j hj ne)

@@ -1,7 +1,7 @@
 -- The bytes of the store: slots of 1,003 bytes, at most 60: a mark (1 if a page is there), the page's number, its version, and a thousand letters row by row, 0 where none is known. Assumes nothing: these are definitions.
 use Rattle.std.specs.Prelude.{◌≡◌, ℕ, zero, suc, ◌+◌, ◌*◌, ◌/◌, ◌<◌, Bool, true, false, cond, not, ◌&&◌, ◌||◌, List, length, ◌==◌, nat_le, nat_lt, slice_index}
 use Rattle.coding.specs.Parity.{is_letter}
-use Rattle.store.specs.Page.{Page, no_page}
+use Rattle.store.specs.Page.{Page, Pages, no_page}
 
 -- how many whole slots there are
 abbrev pub slots : List ℕ → ℕ
@@ -70,6 +70,6 @@ unfoldable pub page_below : List ℕ → ℕ → ℕ → Page
 page_below s n zero = no_page
 page_below s n (suc i) = cond (holds s n i) (slot_page s i) (page_below s n i)
 
--- the pages of a store, by their numbers
-unfoldable pub page_in : List ℕ → ℕ → Page
+-- the pages of a store
+unfoldable pub page_in : List ℕ → Pages
 page_in s n = page_below s n (slots s)

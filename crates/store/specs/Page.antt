@@ -9,6 +9,10 @@ pub record Page : Type 0 where
   pub version : ℕ
   pub letters : ℕ → ℕ → ℕ
 
+-- the pages by their numbers
+abbrev pub Pages : Type 0
+Pages = ℕ → Page
+
 -- a page that is not there
 unfoldable pub no_page : Page
 no_page = record { there = false; version = 0; letters = λ r c. 0 }
@@ -29,8 +33,8 @@ merge came old = cond (nat_lt 0 came) came old
 unfoldable pub overlay : Page → Fragment → Page
 overlay p f = record { there = true; version = p.version; letters = λ r c. merge (f.letters r c) (p.letters r c) }
 
--- a fragment applied to the pages, by their numbers: its own page, in its version, gets its letters; the others stay
-unfoldable pub apply : (ℕ → Page) → Fragment → ℕ → Page
+-- a fragment applied to the pages: its own page, in its version, gets its letters; the others stay
+unfoldable pub apply : Pages → Fragment → Pages
 apply s f n = cond (n == f.page) (overlay (in_version (s n) f.version) f) (s n)
 
 -- pages that show the same

@@ -41,7 +41,12 @@ pub record Claimed (s s₁ : List ℕ) (n v i : ℕ) : Type 0 where
   pub was : (holds s n i ≡ true) ⊎ LowestFree s n i
   pub only : OnlySlot s s₁ i
 
--- n letters of a line, from byte k of it on, were merged from a place on, and no other byte changed
-pub record Merged (s l s₁ : List ℕ) (at k n : ℕ) : Type 0 where
+-- the first n letters of a line were merged from a place on, and no other byte changed
+pub record Merged (s l s₁ : List ℕ) (at n : ℕ) : Type 0 where
+  pub inside : (c : ℕ) → c < n → slice_index s₁ (at + c) ≡ merge (decode_letter (slice_index l (6 + c))) (slice_index s (at + c))
+  pub outside : (k : ℕ) → (k < at) ⊎ (at + n ≤ k) → slice_index s₁ k ≡ slice_index s k
+
+-- n letters of a line were, from byte k of it on
+pub record MergedFrom (s l s₁ : List ℕ) (at k n : ℕ) : Type 0 where
   pub inside : (c : ℕ) → c < n → slice_index s₁ (at + c) ≡ merge (decode_letter (slice_index l (k + c))) (slice_index s (at + c))
   pub outside : (j : ℕ) → (j < at) ⊎ (at + n ≤ j) → slice_index s₁ j ≡ slice_index s j

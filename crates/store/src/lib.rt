@@ -10,5 +10,5 @@ mod slots;
 pub use check::{find_fault, read_directory};
 pub use directory::Directory;
 pub use layout::{MOST_SLOTS, SLOT_SIZE};
-pub use merge::apply_line;
+pub use merge::{apply_line, apply_listed};
 pub use rows::{row, row_place, version};

@@ -4,8 +4,9 @@ ghost use Rattle.line.specs.Reading.{fragment, HeaderOf};
 ghost use Rattle.store.specs.Layout.{well_formed};
 ghost use Rattle.store.specs.Directory.{Lists};
 ghost use Rattle.store.specs.Slots.{NoRoom, Applied};
-ghost use Rattle.store.specs.Writes.{Merged};
+ghost use Rattle.store.specs.Writes.{Merged, MergedFrom};
 
+use crate::check::read_directory;
 use crate::directory::Directory;
 use crate::lanes::{merged8, merged16};
 use crate::layout::{LETTERS_AT, SLOT_SIZE};
@@ -16,7 +17,7 @@ use std::simd::prelude::*;
 fn merge16(store: &mut [u8], at: usize, line: &[u8], from: usize)
     requires store { at + 16 ≤ length store.old }
     requires line { from + 16 ≤ length line.now }
-    ensures { Merged store.old line.now store.new at from 16 }
+    ensures { MergedFrom store.old line.now store.new at from 16 }
 {
     let came = u8x16::from_slice(&line[from..from + 16]);
     let old = u8x16::from_slice(&store[at..at + 16]);
@@ -27,7 +28,7 @@ fn merge16(store: &mut [u8], at: usize, line: &[u8], from: usize)
 fn merge8(store: &mut [u8], at: usize, line: &[u8], from: usize)
     requires store { at + 8 ≤ length store.old }
     requires line { from + 8 ≤ length line.now }
-    ensures { Merged store.old line.now store.new at from 8 }
+    ensures { MergedFrom store.old line.now store.new at from 8 }
 {
     let came = u8x8::from_slice(&line[from..from + 8]);
     let old = u8x8::from_slice(&store[at..at + 8]);
@@ -46,7 +47,7 @@ impl RowLetters<'_> {
     fn put16(&mut self, column: usize, line: &[u8])
         requires row { self.old.start + column + 16 ≤ length self.old.store.now }
         requires line { 6 + column + 16 ≤ length line.now }
-        ensures after { Merged self.old.store.now line.now self.new.store.now (self.old.start + column) (6 + column) 16 }
+        ensures after { MergedFrom self.old.store.now line.now self.new.store.now (self.old.start + column) (6 + column) 16 }
         ensures long { length self.new.store.now ≡ length self.old.store.now }
         ensures start { self.new.start ≡ self.old.start }
         ensures named { self.new.store.ghost_name ≡ self.old.store.ghost_name }
@@ -59,7 +60,7 @@ impl RowLetters<'_> {
     fn put8(&mut self, column: usize, line: &[u8])
         requires row { self.old.start + column + 8 ≤ length self.old.store.now }
         requires line { 6 + column + 8 ≤ length line.now }
-        ensures after { Merged self.old.store.now line.now self.new.store.now (self.old.start + column) (6 + column) 8 }
+        ensures after { MergedFrom self.old.store.now line.now self.new.store.now (self.old.start + column) (6 + column) 8 }
         ensures long { length self.new.store.now ≡ length self.old.store.now }
         ensures start { self.new.start ≡ self.old.start }
         ensures named { self.new.store.ghost_name ≡ self.old.store.ghost_name }
@@ -72,7 +73,7 @@ impl RowLetters<'_> {
     fn put_line(&mut self, line: &[u8])
         requires row { self.old.start + 40 ≤ length self.old.store.now }
         requires line { length line.now ≡ 46 }
-        ensures after { Merged self.old.store.now line.now self.new.store.now self.old.start 6 40 }
+        ensures after { Merged self.old.store.now line.now self.new.store.now self.old.start 40 }
         ensures long { length self.new.store.now ≡ length self.old.store.now }
         ensures named { self.new.store.ghost_name ≡ self.old.store.ghost_name }
     {
@@ -86,14 +87,27 @@ impl RowLetters<'_> {
 fn merge_line(store: &mut [u8], start: usize, line: &[u8])
     requires row { start + 40 ≤ length store.old }
     requires line { length line.now ≡ 46 }
-    ensures { Merged store.old line.now store.new start 6 40 }
+    ensures { Merged store.old line.now store.new start 40 }
 {
     let mut row = RowLetters { store, start };
     row.put_line(line);
 }
 
 // Applies a line that was made out to a store that was checked: its page's slot, or none if there is no room.
-pub fn apply_line(
+pub fn apply_line(store: &mut [u8], header: Header, line: &[u8]) -> Option<usize>
+    requires formed { well_formed store.old ≡ true }
+    requires header { HeaderOf line.now header }
+    ensures { MatchOption result (NoRoom store.old header.page × (store.new ≡ store.old)) (λ _. Applied (fragment line.now) store.old store.new) }
+{
+    match read_directory(store) {
+        Ok(mut directory) => apply_listed(store, &mut directory, header, line),
+        // a store that was checked has no fault
+        Err(_) => None,
+    }
+}
+
+// The same where the store's pages are listed, and they are listed again.
+pub fn apply_listed(
     store: &mut [u8],
     directory: &mut Directory,
     header: Header,

@@ -4,7 +4,7 @@ use Rattle.std.proofs.lemmas.Bool.{eqb-true, cond_both}
 use Rattle.coding.proofs.Below.{all_below, below_at}
 use Rattle.text.specs.Hex.{blank, between, digit_value, byte_of, in_front, hex_bytes, line_bytes, digit_of, hex_byte, hex_text, Bytes, WrittenIsRead}
 use Rattle.text.proofs.HexReading.{front_blank, front_byte, is_byte}
-use Rattle.text.proofs.LineEnds.{untrimmed}
+use Rattle.text.proofs.LineEnds.{no_return_stays}
 
 -- the digit of a value has that value
 digit_test : all_below 16 (λ v. eqb v (digit_value (digit_of v))) ≡ true
@@ -59,4 +59,4 @@ no_return_text (b ∷ c ∷ bs) =
 pub written_is_read : WrittenIsRead
 unfolding line_bytes
 written_is_read bs h =
-    ap hex_bytes (sym (untrimmed 13 (hex_text bs) (no_return_text bs _))) ∙ text_back bs h
+    ap hex_bytes (sym (no_return_stays (hex_text bs) (no_return_text bs _))) ∙ text_back bs h

@@ -6,8 +6,8 @@ unfoldable pub without_end : ℕ → List ℕ → List ℕ
 without_end b l = cond (slice_index l (length l - 1) == b) (take (length l - 1) l) l
 
 -- a line without the carriage return that it may end with
-abbrev pub without_return : List ℕ → List ℕ
-without_return l = without_end 13 l
+unfoldable pub without_return : List ℕ → List ℕ
+without_return l = cond (slice_index l (length l - 1) == 13) (take (length l - 1) l) l
 
 -- a line without the newline that it may end with
 abbrev pub without_newline : List ℕ → List ℕ

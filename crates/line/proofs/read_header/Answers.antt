@@ -3,7 +3,7 @@ use Rattle.std.proofs.Common.{ℕ, ◌<◌, sym, subst, arith}
 use Rattle.line.specs.Reading.{number_of, pair_of}
 use Rattle.line.proofs.Encoding.{six}
 use Rattle.line.proofs.Readability.{Readable, readable_from, unreadable, or_six, six_or}
-use Rattle.line.proofs.Copies.{reads-part, reads_brought}
+use Rattle.line.proofs.Copies.{reads_part, reads_brought}
 use Rattle.line.proofs.read_header.Goals as goal
 use Rattle.line.proofs.read_header.Goals.{Else-no_number}
 
@@ -16,7 +16,7 @@ small c = or_six _ _ _ _ _ _ c.if-no_number.false
 pub returns-then-wrong_length : goal.returns-then-wrong_length
 returns-then-wrong_length c =
     let l = c.args.bytes.now in
-    record { header = unreadable l (λ w. c.if-wrong_length.true w.long); part = λ m copy. reads-part m l copy; brought = reads_brought l }
+    record { header = unreadable l (λ w. c.if-wrong_length.true w.long); part = λ m copy. reads_part m l copy; brought = reads_brought l }
 
 pub returns-then-no_number : goal.returns-then-no_number
 unfolding number_of
@@ -29,7 +29,7 @@ returns-then-no_number c =
     (subst P (sym c.decode_number-version_high.ensures.value) (n 2 (omega arith))) (subst P (sym c.decode_number-version_low.ensures.value) (n 3 (omega arith)))
     (subst P (sym c.decode_number-row_high.ensures.value) (n 4 (omega arith))) (subst P (sym c.decode_number-row_low.ensures.value) (n 5 (omega arith))) in
     omega (arith, lt, c.if-no_number.true) in
-    record { header = unreadable l below; part = λ m copy. reads-part m l copy; brought = reads_brought l }
+    record { header = unreadable l below; part = λ m copy. reads_part m l copy; brought = reads_brought l }
 
 pub of_digits-page-requires : goal.of_digits-page-requires
 of_digits-page-requires c = let h = small c in record { high = omega arith; low = omega arith }
@@ -46,7 +46,7 @@ returns-then-no_such_row c =
     let l = c.args.bytes.now in
     let high = c.decode_number-row_high.ensures.value in
     let low = c.decode_number-row_low.ensures.value in
-    record { header = unreadable l (λ w. omega (arith, w.row, high, low, c.of_digits-row.ensures, c.if-no_such_row.true)); part = λ m copy. reads-part m l copy; brought = reads_brought l }
+    record { header = unreadable l (λ w. omega (arith, w.row, high, low, c.of_digits-row.ensures, c.if-no_such_row.true)); part = λ m copy. reads_part m l copy; brought = reads_brought l }
 
 pub returns : goal.returns
 unfolding number_of pair_of
@@ -67,6 +67,6 @@ returns c =
         version = omega (arith, d, e, c.of_digits-version.ensures);
         row = omega (arith, f, g, row);
       };
-      part = λ m copy. reads-part m l copy;
+      part = λ m copy. reads_part m l copy;
       brought = reads_brought l;
     }

@@ -2,7 +2,7 @@ use Rattle.std.proofs.Common.{◌≡◌, true, false, ◌&&◌, leb, length, sym
 use Rattle.std.proofs.lemmas.Bool.{and_from, and_left, and_right, cond-true, cond-false, le-leb, lt-leb}
 use Rattle.line.specs.Size.{columns}
 use Rattle.page_text.specs.Reading.{all_letters}
-use Rattle.page_text.proofs.LineItems.{row_number, row-blank, row_letters}
+use Rattle.page_text.proofs.LineItems.{row_number, row_blank, row_letters}
 use Rattle.page_text.proofs.items.read_row.Goals as goal
 use Rattle.page_text.proofs.items.read_row.Goals.{then-letters-gt-COLUMNS-via-then-letters-gt-COLUMNS, then-letters-gt-COLUMNS-via-else-letters-gt-COLUMNS+then-not-are_letters}
 
@@ -10,7 +10,7 @@ pub returns-in_err-number : goal.returns-in_err-number
 returns-in_err-number c = rw c.from_residual.ensures (row_number c.args.line.now c.in_err-number.ensures)
 
 pub returns-in_err-letters : goal.returns-in_err-letters
-returns-in_err-letters c = rw c.from_residual-in_err-letters.ensures (row-blank c.args.line.now _ _ c.in_ok-number.ensures c.in_err-letters.ensures)
+returns-in_err-letters c = rw c.from_residual-in_err-letters.ensures (row_blank c.args.line.now _ _ c.in_ok-number.ensures c.in_err-letters.ensures)
 
 pub returns-then-letters-gt-COLUMNS : goal.returns-then-letters-gt-COLUMNS
 returns-then-letters-gt-COLUMNS c =

@@ -5,7 +5,7 @@ use Rattle.page_text.specs.Reading.{lines_of, read_lines, read_text, pages_read,
 use Rattle.page_text.specs.Code.{reading}
 use Rattle.page_text.proofs.FirstRefused.{refusals_are_first}
 use Rattle.page_text.proofs.SoundPages.{pages_are_sound}
-use Rattle.page_text.proofs.DraftPages.{read-further, read-refused, read-end, rest_shorter, tells}
+use Rattle.page_text.proofs.DraftPages.{read_further, read_refused, read_end, rest_shorter, tells}
 use Rattle.page_text.proofs.reading.read_pages.Goals as goal
 
 pub loop-rest-init : goal.loop-rest-init
@@ -22,7 +22,7 @@ returns-in_err-take_line c =
     let s = reading c.loop-rest.draft in
     record {
       outcome = rw (p.1, p.2) (tells c.in_err-take_line.field-0.0 _ c.loop-rest.draft c.take_line.new.self c.loop-rest.place (read_text c.args.text.now) c.in_err-take_line.ensures
-          (λ none. sym c.loop-rest.invariant.0 ∙ read-refused c.loop-rest.place s c.loop-rest.rest.now c.first_line-first.result.line.now (left _ c.loop-rest-test.ensures) c.first_line-first.ensures.line
+          (λ none. sym c.loop-rest.invariant.0 ∙ read_refused c.loop-rest.place s c.loop-rest.rest.now c.first_line-first.result.line.now (left _ c.loop-rest-test.ensures) c.first_line-first.ensures.line
           (ap (λ l. read_on (what_says l) s) (sym c.trim_return.ensures) ∙ none)));
       sound = rw p.1 tt;
       laws = (pages_are_sound, refusals_are_first);
@@ -34,12 +34,12 @@ loop-rest-smaller c = omega (arith, rest_shorter c.loop-rest.rest.now c.first_li
 pub loop-rest-preserved : goal.loop-rest-preserved
 loop-rest-preserved c =
     let s = reading c.loop-rest.draft in (
-      sym (read-further c.loop-rest.place s c.loop-rest.rest.now (reading c.take_line.new.self) c.first_line-first.result.line.now c.first_line-first.result.rest.now (left _ c.loop-rest-test.ensures) c.first_line-first.ensures.line c.first_line-first.ensures.rest
+      sym (read_further c.loop-rest.place s c.loop-rest.rest.now (reading c.take_line.new.self) c.first_line-first.result.line.now c.first_line-first.result.rest.now (left _ c.loop-rest-test.ensures) c.first_line-first.ensures.line c.first_line-first.ensures.rest
           (ap (λ l. read_on (what_says l) s) (sym c.trim_return.ensures) ∙ c.in_ok-take_line.ensures)) ∙ c.loop-rest.invariant.0,
       omega (arith, rest_shorter c.loop-rest.rest.now c.first_line-first.result.rest.now (left _ c.loop-rest-test.ensures) c.first_line-first.ensures.rest, c.loop-rest.invariant.1),
     )
 
 pub returns : goal.returns
 returns c =
-    let read : read_text c.args.text.now ≡ pages_read (vec_items c.finish.result) = sym c.loop-rest.invariant.0 ∙ read-end c.loop-rest.place (reading c.loop-rest.draft) c.loop-rest.rest.now (eqb-true _ 0 (sym c.loop-rest-test.ensures)) ∙ ap pages_read (sym c.finish.ensures) in
+    let read : read_text c.args.text.now ≡ pages_read (vec_items c.finish.result) = sym c.loop-rest.invariant.0 ∙ read_end c.loop-rest.place (reading c.loop-rest.draft) c.loop-rest.rest.now (eqb-true _ 0 (sym c.loop-rest-test.ensures)) ∙ ap pages_read (sym c.finish.ensures) in
     record { outcome = read; sound = pages_are_sound c.args.text.now _ read; laws = (pages_are_sound, refusals_are_first) }

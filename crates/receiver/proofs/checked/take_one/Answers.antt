@@ -10,14 +10,14 @@ returns-in_default c =
       lists = c.requires.lists;
     }
 
-pub returns-in-Some-apply_line : goal.returns-in-Some-apply_line
-returns-in-Some-apply_line c =
+pub returns-in-Some-apply_listed : goal.returns-in-Some-apply_listed
+returns-in-Some-apply_listed c =
     record {
       answer = record {
         number = sym (not_refused c.args.line.now c.args.store.now c.requires.long c.requires.formed);
-        says = record { readable = c.in-Some.ensures.header.readable; applied = c.in-Some-apply_line.ensures.applied };
+        says = record { readable = c.in-Some.ensures.header.readable; applied = c.in-Some-apply_listed.ensures.applied };
       };
-      lists = c.in-Some-apply_line.ensures.lists;
+      lists = c.in-Some-apply_listed.ensures.lists;
     }
 
 pub returns-in-None : goal.returns-in-None

@@ -1,14 +1,14 @@
 use Rattle.std.proofs.Common.{[], length, is_some, unwrap_or, refl, ap, ◌∙◌, arith}
 use Rattle.std.proofs.lemmas.Result.{err_from_is_err_and}
 use Rattle.text.specs.Hex.{hex_bytes, line_bytes}
-use Rattle.text.proofs.LineEnds.{trimmed_short}
+use Rattle.text.proofs.LineEnds.{return_short}
 use Rattle.text.proofs.HexRoundTrip.{written_is_read}
 use Rattle.text.proofs.hex.read_hex.Goals as goal
 
 pub returns-in_err-reserve : goal.returns-in_err-reserve
 returns-in_err-reserve c =
     let p = err_from_is_err_and c.from_residual.result c.from_residual.ensures.1 in
-    let short = trimmed_short 13 c.args.text.now in
+    let short = return_short c.args.text.now in
     let line = ap length c.trim_return-line.ensures in
     rw p.1 (record {
       answer = tt;
