@@ -103,7 +103,7 @@ fn keep_store(rt: &HostRuntime, options: &Options, store: &[u8]) -> anyhow::Resu
 // An error that says that it is the store's.
 fn store_error(rt: &HostRuntime, e: io::Error) -> anyhow::Error {
     match format!(in rt.alloc(); "store: {e}") {
-        Ok(text) => text.into(),
+        Ok(text) => anyhow!("{text}"),
         Err(_) => e.into(),
     }
 }
