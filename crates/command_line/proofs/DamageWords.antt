@@ -1,5 +1,5 @@
 -- Lemmas on the words of a command line: how they are compared, and what each adds to what was asked for. Assumes nothing.
-use Rattle.std.proofs.Common.{◌≡◌, ℕ, ◌≤◌, Bool, true, false, List, [], ◌∷◌, map, length, drop, Some, None, codes, Decides, Option, sym, ap, ◌∙◌}
+use Rattle.std.proofs.Common.{◌≡◌, ℕ, ◌≤◌, Bool, true, false, List, [], ◌∷◌, map, length, drop, Some, None, codes, Option, ap, ◌∙◌}
 use Rattle.std.specs.Str.{bytes_eq}
 use Rattle.std.proofs.lemmas.List.{drop_all}
 use Rattle.std.proofs.lemmas.Bool.{cond-true, cond-false}
@@ -10,16 +10,11 @@ use Rattle.command_line.specs.declared.damage.Command.{Command}
 use Rattle.command_line.specs.declared.damage.Command.TheVariants.{Help, Damage}
 
 -- the test of two words is the one that was made on their texts
-pub same_word : (b : Bool) (text word other : List ℕ) → text ≡ word → Decides b (text ≡ other) → b ≡ true → bytes_eq word other ≡ true
+pub same_word : (b : Bool) (text word other : List ℕ) → text ≡ word → b ≡ bytes_eq text other → b ≡ true → bytes_eq word other ≡ true
 same_word b text word other same h is = equal_word word other (is_word b text word other same h is)
 
-pub other_word : (b : Bool) (text word other : List ℕ) → text ≡ word → Decides b (text ≡ other) → b ≡ false → bytes_eq word other ≡ false
+pub other_word : (b : Bool) (text word other : List ℕ) → text ≡ word → b ≡ bytes_eq text other → b ≡ false → bytes_eq word other ≡ false
 other_word b text word other same h is = unequal-word word other (not_word b text word other same h is)
-
--- a word that is no setting's
-pub unset : (s : Settings) (w : List ℕ) (n : ℕ) → (w ≡ codes "--seed" → ⊥) → (w ≡ codes "--lose" → ⊥) → (w ≡ codes "--numbers" → ⊥) → (w ≡ codes "--letters" → ⊥) → None ≡ with_setting s w n
-unset s w n no-seed no-lose no-numbers no-letters =
-    sym (cond-false _ _ _ (unequal-word w _ no-seed) ∙ cond-false _ _ _ (unequal-word w _ no-lose) ∙ cond-false _ _ _ (unequal-word w _ no-numbers) ∙ cond-false _ _ _ (unequal-word w _ no-letters))
 
 -- a word that asks for the usage
 pub at_help : (s : Settings) (w : List ℕ) (rest : List (List ℕ)) → bytes_eq w (codes "--help") ≡ true → asked s (w ∷ rest) ≡ Some Help

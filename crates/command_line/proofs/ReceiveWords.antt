@@ -1,16 +1,13 @@
 -- Lemmas on the words of a command line: what each word adds to what was asked for.
-use Rattle.std.proofs.Common.{◌≡◌, ℕ, ◌+◌, ◌<◌, ◌≤◌, Bool, true, false, List, [], ◌∷◌, map, length, get_or, drop, is_some, Some, None, codes, Option, sym, refl, ap, ◌∙◌}
+use Rattle.std.proofs.Common.{◌≡◌, ℕ, ◌+◌, ◌<◌, ◌≤◌, true, false, List, ◌∷◌, map, length, get_or, drop, is_some, Some, None, codes, Option, sym, refl, ap, ◌∙◌}
 use Rattle.std.proofs.lemmas.List.{drop_all}
 use Rattle.std.proofs.lemmas.Bool.{cond-true, cond-false, both_ways}
 use Rattle.text.proofs.Words.{same_word, other_word}
 use Rattle.command_line.proofs.WordsLeft.{first_left}
+use Rattle.command_line.specs.declared.receive.OptionsError.{OptionsError}
+use Rattle.command_line.specs.declared.receive.OptionsError.TheVariants.{Wrong, Memory}
 use Rattle.command_line.specs.declared.receive.Valued.{Valued}
-use Rattle.command_line.specs.Receive.{Asked, Given, help, receive, wrong, named, with_value, with_page, if_given, by_option, asked_behind, GivenMore}
-
--- a word that names no option with a value
-pub unnamed : (w : List ℕ) → (w ≡ codes "--slots" → ⊥) → (w ≡ codes "--store" → ⊥) → (w ≡ codes "--follow" → ⊥) → None ≡ named w
-unnamed w no-slots no_store no-follow =
-    sym (cond-false _ _ _ (other_word w _ no-slots) ∙ cond-false _ _ _ (other_word w _ no_store) ∙ cond-false _ _ _ (other_word w _ no-follow))
+use Rattle.command_line.specs.Receive.{Asked, Given, help, receive, wrong, named, with_value, with_page, if_given, by_option, asked_behind, Says, Denies}
 
 -- the word at a place, as the text of it
 pub here : {W : Type 0} (f : W → List ℕ) (o : Option Valued) (g : Given) (ws : List W) (at : ℕ) (x : W) (text : List ℕ) (a : Asked) → asked_behind o g (map f (drop at ws)) ≡ a → at < length ws → x ≡ get_or ws at x → text ≡ f x → a ≡ asked_behind o g (text ∷ map f (drop (at + 1) ws))
@@ -48,18 +45,10 @@ pub if_some : (o : Option Given) (g : Given) (f : Given → Asked) → o ≡ Som
 unfolding if_given
 if_some o g f e = ap (λ x. if_given x f) e
 
-pub if_denied : (o : Option Given) (f : Given → Asked) → o ≡ None → if_given o f ≡ wrong
+pub if_denied : (e : OptionsError) (o : Option Given) (f : Given → Asked) (a : Asked) → Denies e o → a ≡ if_given o f → Says e a
 unfolding if_given
-if_denied o f e = ap (λ x. if_given x f) e
-
--- what a test says of a word that was taken
-pub more : (b : Bool) (o : Option Given) (before after : Given) → GivenMore b o before after → b ≡ true → o ≡ Some after
-more true o before after h is = h
-more false o before after h is = absurd (both_ways false refl is)
-
-pub no_more : (b : Bool) (o : Option Given) (before after : Given) → GivenMore b o before after → b ≡ false → o ≡ None
-no_more true o before after h is = absurd (both_ways true is refl)
-no_more false o before after h is = h.0
+if_denied Wrong o f a h is = is ∙ ap (λ x. if_given x f) h
+if_denied Memory o f a h is = tt
 
 -- no words are left
 pub at_end : {W : Type 0} (f : W → List ℕ) (o : Option Valued) (g : Given) (ws : List W) (at : ℕ) → o ≡ None → length ws ≤ at → asked_behind o g (map f (drop at ws)) ≡ receive g

@@ -15,7 +15,7 @@ abbrev pub defaults : Settings
 defaults = record { seed = 1; lose = 50; numbers = 20; letters = 50 }
 
 -- the settings with one given by its word; none if there is no such word
-abbrev pub with_setting : Settings → List ℕ → ℕ → Option Settings
+unfoldable pub with_setting : Settings → List ℕ → ℕ → Option Settings
 with_setting s word n =
     cond (bytes_eq word (codes "--seed")) (Some (record { seed = n; lose = s.lose; numbers = s.numbers; letters = s.letters }))
     (cond (bytes_eq word (codes "--lose")) (Some (record { seed = s.seed; lose = n; numbers = s.numbers; letters = s.letters }))

@@ -1,11 +1,13 @@
 -- The command line: what the words behind the program's name ask for. Assumes nothing: these are definitions.
-use Rattle.std.specs.Prelude.{◌≡◌, ℕ, Bool, true, false, cond, ◌||◌, List, [], ◌∷◌, ◌++◌, length, is_some, Some, None, vec_items, string_bytes, codes, Option, String, ◌==◌}
+use Rattle.std.specs.Prelude.{◌≡◌, ℕ, cond, ◌||◌, List, [], ◌∷◌, ◌++◌, length, is_some, Some, None, vec_items, string_bytes, codes, Option, String, ◌==◌}
 use Rattle.std.specs.declared.alloc.Global.{Global}
 use Rattle.std.specs.Str.{bytes_eq}
 use Rattle.text.specs.Number.{number_in}
 use Rattle.command_line.specs.declared.receive.Command.{Command}
 use Rattle.command_line.specs.declared.receive.Command.TheVariants.{Help, Receive}
 use Rattle.command_line.specs.declared.receive.Options.{Options}
+use Rattle.command_line.specs.declared.receive.OptionsError.{OptionsError}
+use Rattle.command_line.specs.declared.receive.OptionsError.TheVariants.{Wrong, Memory}
 use Rattle.command_line.specs.declared.receive.Valued.{Valued}
 use Rattle.command_line.specs.declared.receive.Valued.TheVariants.{Slots, Store, Follow}
 
@@ -91,13 +93,17 @@ file_text (Some name) = Some (string_bytes name)
 abbrev pub given : Options → Given
 given o = record { slots = o.slots; store = file_text o.store; follow = o.follow; pages = vec_items o.pages }
 
--- what a command stands for, and no command
-abbrev pub meant : Option Command → Asked
-meant None = wrong
-meant (Some Help) = help
-meant (Some (Receive options)) = receive (given options)
+-- what a command stands for
+abbrev pub meant : Command → Asked
+meant Help = help
+meant (Receive options) = receive (given options)
 
--- a word gave more, or it is wrong and what was given stays
-abbrev pub GivenMore : Bool → Option Given → (before after : Given) → Type 0
-GivenMore true next before after = next ≡ Some after
-GivenMore false next before after = (next ≡ None) × (after ≡ before)
+-- what an error says of a command line
+abbrev pub Says : OptionsError → Asked → Type 0
+Says Wrong a = a ≡ wrong
+Says Memory a = Unit {0}
+
+-- what an error says of a word: it gives nothing
+abbrev pub Denies : OptionsError → Option Given → Type 0
+Denies Wrong g = g ≡ None
+Denies Memory g = Unit {0}

@@ -44,6 +44,7 @@ impl Settings {
     }
 
     // The settings with one given by its word; none if there is no such word.
+    #[tactic(auto, unfolding(crate::specs::Damage::with_setting))]
     fn with(self, word: &str, number: u64) -> Option<Settings>
         ensures { result ≡ with_setting self word.now number }
     {

@@ -1,4 +1,6 @@
 // The command lines of the programs: their words, and what these ask for.
+#![tactic(auto)]
+
 pub mod damage;
 pub mod receive;
 pub mod send;

@@ -1,8 +1,9 @@
 // The command line: `receive_pages [--slots N] [--store FILE] [--follow PAGE] [PAGE ..]`.
-ghost use Rattle.std.specs.Prelude.{◌≡◌, map, IfOk, string_bytes};
-ghost use Rattle.command_line.specs.Receive.{asked, meant, given, nothing, named, with_value, with_page, GivenMore, first_number};
+ghost use Rattle.std.specs.Prelude.{◌≡◌, map, Some, string_bytes, MatchResult};
+ghost use Rattle.command_line.specs.declared.receive.OptionsError.TheVariants.{Memory};
+ghost use Rattle.command_line.specs.Receive.{asked, meant, Says, given, nothing, named, with_value, with_page, first_number, Denies};
 
-use std::alloc::{AllocError, Global};
+use std::alloc::{AllocError, AllocFailed, Global};
 use store::MOST_SLOTS;
 use text::number::read_number;
 
@@ -44,9 +45,33 @@ pub enum Valued {
     Follow,
 }
 
-// What the words of a command line, behind the program's name, ask for; none if they are wrong.
-pub fn read_command(heap: Global, words: &[String]) -> Result<Option<Command>, AllocError>
-    ensures { IfOk result (λ command. asked (map string_bytes words.now) ≡ meant command) }
+// Why a command line isn't followed.
+#[derive(Drop)]
+pub enum OptionsError {
+    // Its words are wrong.
+    Wrong,
+    Memory,
+}
+
+impl From<AllocError> for OptionsError {
+    ghost from_gives = { λ _ r. r ≡ Memory };
+
+    fn from(_e: AllocError) -> OptionsError {
+        OptionsError::Memory
+    }
+}
+
+impl<T: Drop> From<AllocFailed<T>> for OptionsError {
+    ghost from_gives = { λ _ r. r ≡ Memory };
+
+    fn from(_e: AllocFailed<T>) -> OptionsError {
+        OptionsError::Memory
+    }
+}
+
+// What the words of a command line, behind the program's name, ask for.
+pub fn read_command(heap: Global, words: &[String]) -> Result<Command, OptionsError>
+    ensures { MatchResult result (λ command. asked (map string_bytes words.now) ≡ meant command) (λ e. Says e (asked (map string_bytes words.now))) }
 {
     let mut options = no_options(heap);
     // the option whose value is the next word
@@ -54,25 +79,21 @@ pub fn read_command(heap: Global, words: &[String]) -> Result<Option<Command>, A
     for word in words {
         let word = word.as_str();
         if let Some(option) = open {
-            if !options.set(heap, option, word)? {
-                return Ok(None);
-            }
+            options = options.with_value(heap, option, word)?;
             open = None;
         } else {
             if word == HELP {
-                return Ok(Some(Command::Help));
+                return Ok(Command::Help);
             }
             open = valued_option(word);
             if open.is_none() {
-                if !options.add_page(word)? {
-                    return Ok(None);
-                }
+                options = options.with_page(word)?;
             }
         }
     }
     match open {
-        Some(_) => Ok(None),
-        None => Ok(Some(Command::Receive(options))),
+        Some(_) => Err(OptionsError::Wrong),
+        None => Ok(Command::Receive(options)),
     }
 }
 
@@ -104,42 +125,47 @@ fn valued_option(word: &str) -> Option<Valued>
 }
 
 impl Options {
-    // Gives an option its value; false if it has one, or the value is wrong, and then the options stay as they were.
-    fn set(&mut self, heap: Global, option: Valued, value: &str) -> Result<bool, AllocError>
-        ensures { IfOk result (λ set. GivenMore set (with_value option value.now (given self.old)) (given self.old) (given self.new)) }
+    // The options with the value of one more, which wasn't given before.
+    fn with_value(
+        mut self,
+        heap: Global,
+        option: Valued,
+        value: &str,
+    ) -> Result<Options, OptionsError>
+        ensures { MatchResult result (λ options. with_value option value.now (given self) ≡ Some (given options)) (λ e. Denies e (with_value option value.now (given self))) }
     {
         match option {
             Valued::Slots => {
                 let Some(slots) = first_number(self.slots, 1, MOST_SLOTS as u8, value) else {
-                    return Ok(false);
+                    return Err(OptionsError::Wrong);
                 };
                 self.slots = Some(slots);
             }
             Valued::Store => {
                 if self.store.is_some() || value.is_empty() {
-                    return Ok(false);
+                    return Err(OptionsError::Wrong);
                 }
                 self.store = Some(String::from_str(heap, value)?);
             }
             Valued::Follow => {
                 let Some(page) = first_number(self.follow, 0, LAST_PAGE, value) else {
-                    return Ok(false);
+                    return Err(OptionsError::Wrong);
                 };
                 self.follow = Some(page);
             }
         }
-        Ok(true)
+        Ok(self)
     }
 
-    // Adds a page to print; false if the word is no page, and then the options stay as they were.
-    fn add_page(&mut self, word: &str) -> Result<bool, AllocError>
-        ensures { IfOk result (λ added. GivenMore added (with_page word.now (given self.old)) (given self.old) (given self.new)) }
+    // The options with one more page to print.
+    fn with_page(mut self, word: &str) -> Result<Options, OptionsError>
+        ensures { MatchResult result (λ options. with_page word.now (given self) ≡ Some (given options)) (λ e. Denies e (with_page word.now (given self))) }
     {
         let Some(page) = first_number(None, 0, LAST_PAGE, word) else {
-            return Ok(false);
+            return Err(OptionsError::Wrong);
         };
         self.pages.push(page)?;
-        Ok(true)
+        Ok(self)
     }
 }
 

@@ -1,5 +1,5 @@
 -- Lemmas on pages as they are printed.
-use Rattle.std.proofs.Common.{◌≡◌, ℕ, ◌+◌, ◌<◌, ◌≤◌, Bool, true, false, not, ◌&&◌, ltb, List, [], ◌∷◌, ◌++◌, length, get_or, drop, is_some, Some, None, Decides, Option, sym, refl, ap, ◌∙◌, append_assoc, append-nil, add-one, arith, MatchOption}
+use Rattle.std.proofs.Common.{◌≡◌, ℕ, ◌+◌, ◌<◌, ◌≤◌, Bool, true, false, not, ◌&&◌, ltb, List, [], ◌∷◌, ◌++◌, length, get_or, drop, is_some, Some, None, Option, sym, refl, ap, ◌∙◌, append_assoc, append-nil, add-one, arith, MatchOption}
 use Rattle.line.specs.Size.{rows, columns}
 use Rattle.std.specs.Str.{bytes_eq}
 use Rattle.std.proofs.lemmas.List.FromFn.{fill_by_all}
@@ -8,7 +8,6 @@ use Rattle.std.proofs.lemmas.Bool.{and_parts, and_from, lt-ltb, cond-true, cond-
 use Rattle.store.specs.Layout.{well_formed, page_in}
 use Rattle.store.specs.Slots.{RowOf, has_row, VersionOf}
 use Rattle.text.specs.Screen.{shown}
-use Rattle.text.proofs.Words.{same_word, other_word}
 use Rattle.page_report.specs.Report.{row_letters, row_lines, heading_line, missing_line, page_report, shown_otherwise, pages_there, pages_printed, pages_report}
 
 -- a row that is handed back is the row of the page
@@ -41,15 +40,10 @@ pub report_missing : (s : List ℕ) (n : ℕ) (before now₁ : List ℕ) → (we
 unfolding page_report
 report_missing s n before now₁ h e = e ∙ ap (λ x. before ++ x) (sym (cond-false _ _ _ h))
 
--- the test of two texts
-pub same_test : (b : Bool) (x y : List ℕ) → Decides b (x ≡ y) → b ≡ bytes_eq x y
-same_test true x y h = sym (same_word x y (h.0 refl))
-same_test false x y h = sym (other_word x y (λ e. both_ways false refl (h.1 e)))
-
 -- a page that was compared with what was shown before
-pub compared : (b : Bool) (before text old new : List ℕ) (s : List ℕ) (n : ℕ) → old ≡ before → new ≡ text → text ≡ page_report s n → Decides b (old ≡ new) → not b ≡ shown_otherwise before s n
+pub compared : (b : Bool) (before text old new : List ℕ) (s : List ℕ) (n : ℕ) → old ≡ before → new ≡ text → text ≡ page_report s n → b ≡ bytes_eq old new → not b ≡ shown_otherwise before s n
 compared b before text old new s n e₁ e₂ e₃ h =
-    ap not (same_test b old new h ∙ ap (λ x. bytes_eq x new) e₁ ∙ ap (bytes_eq before) (e₂ ∙ e₃))
+    ap not (h ∙ ap (λ x. bytes_eq x new) e₁ ∙ ap (bytes_eq before) (e₂ ∙ e₃))
 
 -- one page more of those that are left, and none left
 pub pages_more : (s ns : List ℕ) (i : ℕ) (now₁ now₂ all : List ℕ) → i < length ns → now₁ ++ pages_report s (drop i ns) ≡ all → now₂ ≡ now₁ ++ page_report s (get_or ns i 0) → now₂ ++ pages_report s (drop (i + 1) ns) ≡ all

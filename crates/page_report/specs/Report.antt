@@ -35,8 +35,8 @@ abbrev pub shown_otherwise : (before : List ℕ) (s : List ℕ) (n : ℕ) → Bo
 shown_otherwise before s n = not (bytes_eq before (page_report s n))
 
 -- the last line: how many lines were lost, and for how many there was no room
-abbrev pub counts_line : Counts → List ℕ
-counts_line k = codes "lost " ++ (decimal k.lost ++ (codes ", full " ++ (decimal k.full ++ 10 ∷ [])))
+abbrev pub counts_line : ℕ → ℕ → List ℕ
+counts_line lost full = codes "lost " ++ (decimal lost ++ (codes ", full " ++ (decimal full ++ 10 ∷ [])))
 
 -- the numbers below k of the pages that are there, in order
 unfoldable pub pages_there : List ℕ → ℕ → List ℕ
@@ -54,4 +54,4 @@ pages_report s ns = flat_map (page_report s) ns
 
 -- what is printed at the end
 abbrev pub last_report : List ℕ → List ℕ → Counts → List ℕ
-last_report s ns k = pages_report s (pages_printed s ns) ++ counts_line k
+last_report s ns k = pages_report s (pages_printed s ns) ++ counts_line k.lost k.full

@@ -85,7 +85,7 @@ fn write_pages(heap: Global, store: &[u8], pages: &[u8], out: &mut String) -> Re
 }
 
 // Appends a page as it is printed: a heading, and its rows as signs; or that it wasn't received.
-fn write_page(heap: Global, store: &[u8], page: u8, out: &mut String) -> Result<(), AllocError>
+pub fn write_page(heap: Global, store: &[u8], page: u8, out: &mut String) -> Result<(), AllocError>
     ensures { OnOk result (string_bytes out.new ≡ string_bytes out.old ++ page_report store.now page) }
 {
     match shown_version(store, page as u64) {
@@ -128,8 +128,8 @@ fn write_missing(heap: Global, page: u8, out: &mut String) -> Result<(), AllocEr
 }
 
 // The last line: how many lines were lost, and for how many there was no room.
-fn counts_line(heap: Global, counts: Counts) -> Result<String, AllocError>
-    ensures { IfOk result (λ s. string_bytes s ≡ counts_line counts) }
+pub fn counts_line(heap: Global, counts: Counts) -> Result<String, AllocError>
+    ensures { IfOk result (λ s. string_bytes s ≡ counts_line counts.lost counts.full) }
 {
     let lost = counts.lost;
     let full = counts.full;

@@ -1,20 +1,35 @@
--- What becomes of lines of the input. Assumes nothing: these are definitions.
-use Rattle.std.specs.Prelude.{◌≡◌, ℕ, cond, List, ◌++◌, length, Some, None, Option, ◌==◌}
-use Rattle.receiver.specs.Batch.{RefusedLines, LinesRefusedAt}
+-- What becomes of a line of the input. Assumes nothing: these are definitions.
+use Rattle.std.specs.Prelude.{◌≡◌, ℕ, List, [], ◌∷◌, Some, None, Option}
+use Rattle.receiver.specs.declared.entry.Done.{Done}
+use Rattle.receiver.specs.declared.entry.Done.TheVariants.{Took, Lost, Full, Refused}
 use Rattle.receiver.specs.declared.entry.Counts.{Counts}
+use Rattle.receiver.specs.Entry.{Answers, RefusedAt, counted}
+use Rattle.receiver.specs.Promises.{Continues}
 use Rattle.receive_pages.specs.declared.intake.Refusal.{Refusal}
 
--- what is said of the line with number n, by the bytes that it spells: no bytes in hex are refused with number 3 and the line's number, bytes that aren't 46 with number 1 and their length; a line of no byte is passed over
-abbrev pub said_of : (n : ℕ) → Option (List ℕ) → Option Refusal
-said_of n None = Some (record { reason = 3; place = n })
-said_of n (Some bytes) = cond (length bytes == 46) None (cond (length bytes == 0) None (Some (record { reason = 1; place = length bytes })))
+-- a refusal is said with its number and its place; of any other answer nothing is said
+abbrev pub Tells : (l s : List ℕ) → Done → Option Refusal → Type 0
+Tells l s Took said = said ≡ None
+Tells l s Lost said = said ≡ None
+Tells l s Full said = said ≡ None
+Tells l s (Refused f) said = (p : ℕ) × (said ≡ Some (record { reason = f; place = p })) × RefusedAt l s p
 
--- the lines that wait with this one: 46 bytes are laid behind them
-abbrev pub waiting_with : Option (List ℕ) → List ℕ → List ℕ
-waiting_with None waiting = waiting
-waiting_with (Some bytes) waiting = cond (length bytes == 46) (waiting ++ bytes) waiting
+-- the bytes of a line were received, and counted
+pub record Received (l s : List ℕ) (k : Counts) (said : Option Refusal) (s₁ : List ℕ) (k₁ : Counts) : Type 0 where
+  pub done : Done
+  pub answers : Answers l s done s₁
+  pub continues : Continues l s done s₁
+  pub count : k₁ ≡ counted k done
+  pub tells : Tells l s done said
 
--- lines were turned away with the number and the place that are said, and nothing changed
-pub record TurnedAway (said : Refusal) (bytes s : List ℕ) (k : Counts) (s₁ : List ℕ) (k₁ : Counts) : Type 0 where
-  pub refused : RefusedLines said.reason bytes s k s₁ k₁
-  pub place : LinesRefusedAt bytes s said.place
+-- nothing was taken, and this is said
+pub record Untaken (sentence : Option Refusal) (s : List ℕ) (k : Counts) (said : Option Refusal) (s₁ : List ℕ) (k₁ : Counts) : Type 0 where
+  pub same : s₁ ≡ s
+  pub count : k₁ ≡ k
+  pub tells : said ≡ sentence
+
+-- what becomes of the line with number n, by the bytes that it spells: no bytes in hex are refused, a line of no byte is passed over, and any other is received
+abbrev pub Taken : (n : ℕ) (spelt : Option (List ℕ)) (s : List ℕ) (k : Counts) (said : Option Refusal) (s₁ : List ℕ) (k₁ : Counts) → Type 0
+Taken n None s k said s₁ k₁ = Untaken (Some (record { reason = 3; place = n })) s k said s₁ k₁
+Taken n (Some []) s k said s₁ k₁ = Untaken None s k said s₁ k₁
+Taken n (Some (b ∷ bs)) s k said s₁ k₁ = Received (b ∷ bs) s k said s₁ k₁

@@ -1,1 +1,2 @@
 pub mod Intake
+pub mod Gathering

@@ -1,37 +1,31 @@
-// Lines of the input: hex digits into bytes, lines gathered until there are many, and those taken into the store at once.
-ghost use Rattle.std.specs.Prelude.{◌≡◌, ◌%◌, [], length, is_ok, IfOk, if◌then◌else◌, MatchOption};
+// Taking a line of the input by itself: hex digits into bytes, and the bytes into the store.
+ghost use Rattle.std.specs.Prelude.{◌≡◌, MatchResult};
 ghost use Rattle.text.specs.Hex.{line_bytes};
-ghost use Rattle.receiver.specs.Batch.{TookLines};
-ghost use Rattle.receive_pages.specs.Intake.{said_of, waiting_with, TurnedAway};
+ghost use Rattle.receive_pages.specs.Intake.{Received, Taken};
 
-use line::Line;
-use receiver::{Counts, lines_refusal_place, take_lines};
+use receiver::{Counts, Done, receive, refusal_place};
 use std::alloc::AllocError;
 use text::hex::read_hex;
 
-// What is turned away: for which reason, and where.
+// A line that is turned away: for which reason, and where.
 #[derive(Clone, Copy)]
-pub(crate) struct Refusal {
-    pub(crate) reason: u64,
-    pub(crate) place: u64,
+pub struct Refusal {
+    pub reason: u64,
+    pub place: u64,
 }
 
-// The line isn't 46 bytes long.
-const REFUSED_LINE: u64 = 1;
-
 // The line isn't bytes in hex.
-const REFUSED_TEXT: u64 = 3;
+pub(crate) const REFUSED_TEXT: u64 = 3;
 
-// Lays the line with this number behind those that wait, or says why it is turned away; `bytes` is room for what it spells. A line that spells no byte is
-// passed over.
-pub(crate) fn gather(
+// Takes the line with this number into the store; `bytes` is room for what it spells. A line that spells no byte is passed over.
+pub fn take_text(
     text: &[u8],
     number: u64,
     bytes: &mut Vec<u8>,
-    waiting: &mut Vec<u8>,
+    store: &mut [u8],
+    counts: &mut Counts,
 ) -> Result<Option<Refusal>, AllocError>
-    ensures said { IfOk result (λ said. said ≡ said_of number (line_bytes text.now)) }
-    ensures waiting { waiting.new.items ≡ (if is_ok result then waiting_with (line_bytes text.now) waiting.old.items else waiting.old.items) }
+    ensures { MatchResult result (λ said. Taken number (line_bytes text.now) store.old counts.old said store.new counts.new) (λ _. (store.new ≡ store.old) × (counts.new ≡ counts.old)) }
 {
     if !read_hex(text, bytes)? {
         return Ok(Some(Refusal {
@@ -39,40 +33,19 @@ pub(crate) fn gather(
             place: number,
         }));
     }
-    let length = bytes.len();
-    if length == Line::LENGTH {
-        waiting.extend_from_slice(bytes.as_slice())?;
+    if bytes.is_empty() {
         return Ok(None);
     }
-    if length == 0 {
-        return Ok(None);
-    }
-    Ok(Some(Refusal {
-        reason: REFUSED_LINE,
-        place: length as u64,
-    }))
+    Ok(take_bytes(bytes.as_slice(), store, counts))
 }
 
-// Takes the lines that wait into the store, all at once; none waits then. Why they are turned away, if they are.
-pub(crate) fn take_waiting(
-    waiting: &mut Vec<u8>,
-    store: &mut [u8],
-    counts: &mut Counts,
-) -> Option<Refusal>
-    ensures taken { MatchOption result (TookLines waiting.old.items store.old counts.old store.new counts.new) (λ refusal. TurnedAway refusal waiting.old.items store.old counts.old store.new counts.new) }
-    ensures emptied { waiting.new.items ≡ [] }
+// Takes a line's bytes into the store.
+fn take_bytes(line: &[u8], store: &mut [u8], counts: &mut Counts) -> Option<Refusal>
+    ensures { Received line.now store.old counts.old result store.new counts.new }
 {
-    let refusal = take_all(waiting.as_slice(), store, counts);
-    waiting.clear();
-    refusal
-}
-
-fn take_all(lines: &[u8], store: &mut [u8], counts: &mut Counts) -> Option<Refusal>
-    ensures { MatchOption result (TookLines lines.now store.old counts.old store.new counts.new) (λ refusal. TurnedAway refusal lines.now store.old counts.old store.new counts.new) }
-{
-    let Err(reason) = take_lines(lines, store, counts) else {
+    let Done::Refused(reason) = receive(line, store, counts) else {
         return None;
     };
-    let place = lines_refusal_place(lines, store)?;
+    let place = refusal_place(line, store)?;
     Some(Refusal { reason, place })
 }

@@ -1,11 +1,13 @@
 // Receives pages: takes lines in hex from standard input into a store, and prints its pages at the end.
+mod gathering;
 mod intake;
 mod keeping;
 
 use anyhow::anyhow;
-use command_line::receive::{Command, Options, read_command};
+use command_line::receive::{Command, Options, OptionsError, read_command};
 use command_line::words::refuse_words;
-use intake::{Refusal, gather, take_waiting};
+use gathering::{gather, take_waiting};
+use intake::{Refusal, take_text};
 use keeping::replace_file;
 use line::Line;
 use page_report::{redraw_page, write_report};
@@ -31,15 +33,17 @@ const MOST_WAITING: usize = 1024 * Line::LENGTH;
 const CLEAR_SCREEN: &str = "\x1b[H\x1b[2J";
 
 fn main(rt: HostRuntime) -> anyhow::Result<()> {
-    // a word that isn't UTF-8 is none that is known
-    let Ok(words) = read_words(&rt) else {
-        return refuse_words(&rt, USAGE);
+    let words = match read_words(&rt) {
+        Ok(words) => words,
+        // a word that isn't UTF-8 is none that is known
+        Err(e) if e.kind() == io::ErrorKind::InvalidData => return refuse_words(&rt, USAGE),
+        Err(e) => return Err(e.into()),
     };
     match read_command(rt.alloc(), words.as_slice()) {
-        Ok(Some(Command::Help)) => print_usage(&rt),
-        Ok(Some(Command::Receive(options))) => receive_pages(&rt, &options),
-        Ok(None) => refuse_words(&rt, USAGE),
-        Err(e) => Err(e.into()),
+        Ok(Command::Help) => print_usage(&rt),
+        Ok(Command::Receive(options)) => receive_pages(&rt, &options),
+        Err(OptionsError::Wrong) => refuse_words(&rt, USAGE),
+        Err(OptionsError::Memory) => Err(anyhow!("no memory")),
     }
 }
 
@@ -117,21 +121,50 @@ fn print_report(
     Ok(())
 }
 
-// Takes each line of the input into the store, and says which are turned away. Memory is kept from line to line.
+// Takes each line of the input into the store, and says which are turned away. A page that is followed is shown after each line, so lines wait only if none is.
 fn take_input(
     rt: &HostRuntime,
     follow: Option<u8>,
     store: &mut [u8],
     counts: &mut Counts,
 ) -> anyhow::Result<()> {
+    match follow {
+        Some(page) => take_shown(rt, page, store, counts),
+        None => take_gathered(rt, store, counts),
+    }
+}
+
+// Takes the lines one by one, and shows a page as they change it. Memory is kept from line to line.
+fn take_shown(
+    rt: &HostRuntime,
+    page: u8,
+    store: &mut [u8],
+    counts: &mut Counts,
+) -> anyhow::Result<()> {
+    let mut input = BufReader::new(rt.alloc(), rt.stdin())?;
+    let mut line = Vec::new(rt.alloc());
+    let mut bytes = Vec::new(rt.alloc());
+    let mut shown = String::new(rt.alloc());
+    for number in 0..u64::MAX {
+        show_followed(rt, page, store, &mut shown)?;
+        line.clear();
+        if input.read_until(b'\n', &mut line)? == 0 {
+            break;
+        }
+        let text = trim_newline(line.as_slice());
+        if let Some(refusal) = take_text(text, number, &mut bytes, store, counts)? {
+            say_refused(rt, number, refusal)?;
+        }
+    }
+    Ok(())
+}
+
+// Takes the lines many at once. Memory is kept from line to line.
+fn take_gathered(rt: &HostRuntime, store: &mut [u8], counts: &mut Counts) -> anyhow::Result<()> {
     let mut input = BufReader::new(rt.alloc(), rt.stdin())?;
     let mut line = Vec::new(rt.alloc());
     let mut bytes = Vec::new(rt.alloc());
     let mut waiting = Vec::new(rt.alloc());
-    let mut shown = String::new(rt.alloc());
-    // a page that is followed is shown after each line, so no line waits then
-    let most = if follow.is_some() { 1 } else { MOST_WAITING };
-    show_followed(rt, follow, store, &mut shown)?;
     for number in 0..u64::MAX {
         line.clear();
         if input.read_until(b'\n', &mut line)? == 0 {
@@ -141,9 +174,8 @@ fn take_input(
         if let Some(refusal) = gather(text, number, &mut bytes, &mut waiting)? {
             say_refused(rt, number, refusal)?;
         }
-        if waiting.len() >= most {
+        if waiting.len() >= MOST_WAITING {
             flush(&mut waiting, store, counts)?;
-            show_followed(rt, follow, store, &mut shown)?;
         }
     }
     flush(&mut waiting, store, counts)
@@ -167,16 +199,14 @@ fn say_refused(rt: &HostRuntime, number: u64, refusal: Refusal) -> anyhow::Resul
 // Shows the page that is followed in place of what was shown before, if it is another.
 fn show_followed(
     rt: &HostRuntime,
-    follow: Option<u8>,
+    page: u8,
     store: &[u8],
     shown: &mut String,
 ) -> anyhow::Result<()> {
-    if let Some(page) = follow {
-        if redraw_page(rt.alloc(), store, page, shown)? {
-            let text = shown.as_str();
-            print!(rt; "{CLEAR_SCREEN}{text}")?;
-            rt.stdout().flush()?;
-        }
+    if redraw_page(rt.alloc(), store, page, shown)? {
+        let text = shown.as_str();
+        print!(rt; "{CLEAR_SCREEN}{text}")?;
+        rt.stdout().flush()?;
     }
     Ok(())
 }

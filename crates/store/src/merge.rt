@@ -6,10 +6,10 @@ ghost use Rattle.store.specs.Directory.{Lists};
 ghost use Rattle.store.specs.Slots.{NoRoom, Applied};
 ghost use Rattle.store.specs.Writes.{Merged, MergedFrom};
 
-use crate::check::read_directory;
 use crate::directory::Directory;
 use crate::lanes::{merged8, merged16};
 use crate::layout::{LETTERS_AT, SLOT_SIZE};
+use crate::slots::claim_slot;
 use line::{COLUMNS, Header, Line};
 use std::simd::prelude::*;
 
@@ -99,14 +99,16 @@ pub fn apply_line(store: &mut [u8], header: Header, line: &[u8]) -> Option<usize
     requires header { HeaderOf line.now header }
     ensures { MatchOption result (NoRoom store.old header.page × (store.new ≡ store.old)) (λ _. Applied (fragment line.now) store.old store.new) }
 {
-    match read_directory(store) {
-        Ok(mut directory) => apply_listed(store, &mut directory, header, line),
-        // a store that was checked has no fault
-        Err(_) => None,
-    }
+    let slot = claim_slot(store, header.page, header.version)?;
+    merge_line(
+        store,
+        SLOT_SIZE * slot + LETTERS_AT + COLUMNS * header.row as usize,
+        line,
+    );
+    Some(slot)
 }
 
-// The same where the store's pages are listed, and they are listed again.
+// The same in a store whose pages are listed, without a search; they are listed then too.
 pub fn apply_listed(
     store: &mut [u8],
     directory: &mut Directory,

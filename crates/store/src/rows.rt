@@ -12,7 +12,7 @@ use line::{COLUMNS, ROWS};
 const LAST_PAGE: u64 = 255;
 
 // The slot that holds a page; none if the page isn't there, or the store isn't as it should be.
-fn find_slot(store: &[u8], page: u64) -> Option<usize>
+fn slot_of(store: &[u8], page: u64) -> Option<usize>
     ensures { MatchOption result ((well_formed store.now && (page_in store.now page).there) ≡ false) (λ i. (well_formed store.now ≡ true) × Found store.now page i) }
 {
     if page > LAST_PAGE {
@@ -31,7 +31,7 @@ pub fn row_place(store: &[u8], page: u64, at: u64) -> Option<usize>
     if at >= ROWS as u64 {
         return None;
     }
-    match find_slot(store, page) {
+    match slot_of(store, page) {
         Some(slot) => Some(SLOT_SIZE * slot + LETTERS_AT + COLUMNS * at as usize),
         None => None,
     }
@@ -51,7 +51,7 @@ pub fn row<'a>(store: &'a [u8], page: u64, at: u64) -> &'a [u8]
 pub fn version(store: &[u8], page: u64) -> Option<u8>
     ensures { MatchOption result ((well_formed store.now && (page_in store.now page).there) ≡ false) (λ v. VersionOf store.now page v) }
 {
-    match find_slot(store, page) {
+    match slot_of(store, page) {
         Some(slot) => Some(store[SLOT_SIZE * slot + 2]),
         None => None,
     }

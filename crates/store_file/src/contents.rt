@@ -1,6 +1,7 @@
 // What the bytes of a store's file are, and the bytes of a store with no page.
-ghost use Rattle.std.specs.Prelude.{◌≡◌, IfOk};
-ghost use Rattle.store_file.specs.StoreFile.{Judged, no_pages};
+ghost use Rattle.std.specs.Prelude.{◌≡◌, ◌*◌, replicate, IfOk};
+ghost use Rattle.std.specs.Option.{unwrap_or};
+ghost use Rattle.store_file.specs.StoreFile.{Judged};
 
 use std::alloc::{AllocError, Global};
 use store::{MOST_SLOTS, SLOT_SIZE, find_fault};
@@ -33,7 +34,7 @@ pub fn check_contents(bytes: &[u8], asked: Option<u8>) -> Contents
 
 // A store with no page, of as many slots as are asked for, or of 60.
 pub fn new_store(heap: Global, slots: Option<u8>) -> Result<Vec<u8>, AllocError>
-    ensures { IfOk result (λ v. v.items ≡ no_pages slots) }
+    ensures { IfOk result (λ v. v.items ≡ replicate (1003 * unwrap_or slots 60) 0) }
 {
     let slots = slots.unwrap_or(MOST_SLOTS as u8);
     vec![in heap; 0u8; SLOT_SIZE * slots as usize]

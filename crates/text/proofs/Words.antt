@@ -1,16 +1,16 @@
 -- Lemmas on words that are compared, and on the words from a place on.
-use Rattle.std.proofs.Common.{◌≡◌, ℕ, ◌+◌, ◌<◌, Bool, true, false, List, ◌∷◌, map, length, get_or, drop, Decides, sym, ap, ◌∙◌, ⊎_elim}
+use Rattle.std.proofs.Common.{◌≡◌, ℕ, ◌+◌, ◌<◌, Bool, true, false, List, ◌∷◌, map, length, get_or, drop, sym, ap, ◌∙◌, ⊎_elim}
 use Rattle.std.specs.Str.{bytes_eq}
 use Rattle.std.proofs.lemmas.Slice.Eq.{bytes_eq-Decides}
 use Rattle.std.proofs.lemmas.List.{drop_more}
 use Rattle.std.proofs.lemmas.Bool.{both_ways, cases_Bool}
 
 -- a word that was compared with another, as the text of it
-pub is_word : (b : Bool) (text word other : List ℕ) → text ≡ word → Decides b (text ≡ other) → b ≡ true → word ≡ other
-is_word b text word other same h is = sym same ∙ h.0 is
+pub is_word : (b : Bool) (text word other : List ℕ) → text ≡ word → b ≡ bytes_eq text other → b ≡ true → word ≡ other
+is_word b text word other same h is = sym same ∙ (bytes_eq-Decides text other).0 (sym h ∙ is)
 
-pub not_word : (b : Bool) (text word other : List ℕ) → text ≡ word → Decides b (text ≡ other) → b ≡ false → word ≡ other → ⊥
-not_word b text word other same h is equal = both_ways b is (h.1 (same ∙ equal))
+pub not_word : (b : Bool) (text word other : List ℕ) → text ≡ word → b ≡ bytes_eq text other → b ≡ false → word ≡ other → ⊥
+not_word b text word other same h is equal = both_ways b is (h ∙ (bytes_eq-Decides text other).1 (same ∙ equal))
 
 -- the test of two words
 pub same_word : (w k : List ℕ) → w ≡ k → bytes_eq w k ≡ true

@@ -6,7 +6,7 @@ pub returns : goal.returns
 returns c =
     let s = c.args.store.now in
     let pages = pages_report s (pages_printed s c.args.pages.now) in
-    c.in-ok-push-str.ensures.bytes
-    ∙ ap (λ x. string_bytes c.write-printed.new.out ++ x) (c.as-str.ensures.value ∙ c.in-ok-line.ensures)
-    ∙ ap (λ x. x ++ counts_line c.args.counts) c.in-ok-write-printed.ensures
-    ∙ append_assoc (string_bytes c.args.out.now) pages (counts_line c.args.counts)
+    c.in_ok-push_str.ensures.bytes
+    ∙ ap (λ x. string_bytes c.write_printed.new.out ++ x) (c.as_str.ensures.value ∙ c.in_ok-line.ensures)
+    ∙ ap (λ x. x ++ counts_line c.args.counts.lost c.args.counts.full) c.in_ok-write_printed.ensures
+    ∙ append_assoc (string_bytes c.args.out.now) pages (counts_line c.args.counts.lost c.args.counts.full)

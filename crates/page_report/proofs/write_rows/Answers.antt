@@ -9,7 +9,7 @@ loop-at-init c = sym (append-nil (string_bytes c.args.out.now))
 
 pub loop-at-preserved : goal.loop-at-preserved
 loop-at-preserved c =
-    let w = c.in-ok-show-row.ensures.row in
+    let w = c.in_ok-show_row.ensures.row in
     row_lines_more c.args.store.now c.args.page c.loop-at.at w.0
-    (string_bytes c.args.out.now) (string_bytes c.loop-at.out) (string_bytes c.show-row.new.out) (string_bytes c.push-str.new.self)
-    c.requires c.loop-at-test.true w.1 c.loop-at.invariant w.3 c.in-ok-push-str.ensures.bytes
+    (string_bytes c.args.out.now) (string_bytes c.loop-at.out) (string_bytes c.show_row.new.out) (string_bytes c.push_str.new.self)
+    c.requires c.loop-at-test.true w.1 c.loop-at.invariant w.3 c.in_ok-push_str.ensures.bytes

@@ -2,7 +2,7 @@ use Rattle.std.proofs.Common.{arith}
 use Rattle.std.proofs.lemmas.Bool.{and_left}
 use Rattle.store.proofs.Faults.{faulty}
 use Rattle.store.proofs.HandedBack.{not_there_wide, found_in}
-use Rattle.store.proofs.rows.find_slot.Goals as goal
+use Rattle.store.proofs.rows.slot_of.Goals as goal
 
 pub returns-then-page-gt-LAST_PAGE : goal.returns-then-page-gt-LAST_PAGE
 returns-then-page-gt-LAST_PAGE c = not_there_wide c.args.store.now c.args.page (λ k. omega (arith, c.type_inv.store k)) c.if-page-gt-LAST_PAGE.true
