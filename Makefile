@@ -8,7 +8,7 @@ TOOLS = damage_lines
 .PHONY: all demo test library bench outside install clean
 
 all:
-	rt check $(PROGRAMS) $(TOOLS)
+	tools/build $(PROGRAMS) $(TOOLS)
 
 demo: all
 	@examples/demo target/bin
@@ -18,7 +18,7 @@ test:
 
 # target/staticlib/libbridge.a, which include/demborugy.h declares
 library:
-	rt staticlib bridge
+	tools/build bridge
 
 bench:
 	bench/run
@@ -34,4 +34,4 @@ install: all
 	install -m 644 $(PROGRAMS:%=docs/man/%.1) "$(DESTDIR)$(PREFIX)/share/man/man1"
 
 clean:
-	rm -rf target
+	rm -rf target crates/*/out

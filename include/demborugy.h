@@ -2,7 +2,8 @@
  *
  * docs/FORMAT.md has lines, the store and the refusals. Each function is proved for all bytes that it is given. The caller owes this:
  *  - a pointer isn't NULL, even where its length is 0, and as many bytes as the length says may be read there (and written, if it isn't const);
- *  - what may be written overlaps nothing else that is given.
+ *  - what may be written overlaps nothing else that is given;
+ *  - the processor has what x86-64-v2 names, SSE4.2 and all before it: the library is built for such, and doesn't check.
  */
 #ifndef DEMBORUGY_H
 #define DEMBORUGY_H
