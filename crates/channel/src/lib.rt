@@ -1,4 +1,6 @@
 // A model of the air, for trials and demonstrations: a seeded generator of numbers, and lines with bits turned at random.
+#![tactic(auto)]
+
 mod air;
 mod random;
 

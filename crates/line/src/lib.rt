@@ -1,4 +1,6 @@
 // Lines of 46 bytes: six numbers (page, version and row, each as sixteens and ones) and the forty letters of a row.
+#![tactic(auto)]
+
 ghost use Rattle.std.specs.Prelude.{◌≡◌, ℕ, ◌+◌, ◌*◌, ◌<◌, ◌≤◌, false, length, Decides, MatchOption, slice_index};
 ghost use Rattle.coding.specs.Hamming.{distance};
 ghost use Rattle.line.specs.Line.{Valid, encode_line};

@@ -19,7 +19,7 @@ fn bytes_of_hello(rt: HostRuntime) {
 fn a_version_begins_anew(rt: HostRuntime) {
     let mut store = [0u8; SLOT];
     assert!(rt; took(take_line(&hello(3, 1), &mut store)));
-    assert_eq!(rt; start(row(&store, 18, 1)), b"HELLO");
+    assert_eq!(rt; start(row(&store, 18, 1)), b"HELLO".as_slice());
     let mut damaged = hello(4, 2);
     damaged[3] ^= 3;
     let before = store;
@@ -30,7 +30,7 @@ fn a_version_begins_anew(rt: HostRuntime) {
     assert_eq!(rt; &store[0..SLOT], &before[0..SLOT]);
     assert!(rt; took(take_line(&hello(4, 2), &mut store)));
     assert_eq!(rt; row(&store, 18, 1), &[0; 40]);
-    assert_eq!(rt; start(row(&store, 18, 2)), b"HELLO");
+    assert_eq!(rt; start(row(&store, 18, 2)), b"HELLO".as_slice());
 }
 
 #[test]
@@ -39,10 +39,10 @@ fn a_damaged_letter(rt: HostRuntime) {
     damaged[8] ^= 1;
     let mut store = [0u8; SLOT];
     assert!(rt; took(take_line(&damaged, &mut store)));
-    assert_eq!(rt; start(row(&store, 18, 1)), b"HE\0LO");
+    assert_eq!(rt; start(row(&store, 18, 1)), b"HE\0LO".as_slice());
     assert!(rt; took(take_line(&hello(3, 1), &mut store)));
     assert!(rt; took(take_line(&damaged, &mut store)));
-    assert_eq!(rt; start(row(&store, 18, 1)), b"HELLO");
+    assert_eq!(rt; start(row(&store, 18, 1)), b"HELLO".as_slice());
 }
 
 #[test]
@@ -65,8 +65,8 @@ fn many_lines(rt: HostRuntime) {
     let mut counts = Counts { lost: 0, full: 0 };
     let mut lines = end_to_end(&hello(3, 1), &hello(3, 2));
     assert!(rt; take_lines(&lines, &mut store, &mut counts).is_ok());
-    assert_eq!(rt; start(row(&store, 18, 1)), b"HELLO");
-    assert_eq!(rt; start(row(&store, 18, 2)), b"HELLO");
+    assert_eq!(rt; start(row(&store, 18, 1)), b"HELLO".as_slice());
+    assert_eq!(rt; start(row(&store, 18, 2)), b"HELLO".as_slice());
     lines[49] ^= 3;
     assert!(rt; take_lines(&lines, &mut store, &mut counts).is_ok());
     assert_eq!(rt; counts.lost, 1);

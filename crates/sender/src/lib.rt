@@ -1,4 +1,6 @@
 // The sender: which line goes next.
+#![tactic(auto)]
+
 mod turns;
 
 pub use turns::{Schedule, Turn, look_ahead, next};

@@ -2,7 +2,7 @@
 use Rattle.std.proofs.Common.{◌≡◌, ℕ, ◌+◌, ◌*◌, ◌<◌, true, false, cond, ◌&&◌, eqb, ltb, ◌⊎◌, List, length, get_or, sym, refl, ap, ◌∙◌, subst, inl, inr, ⊎_elim, add_assoc, arith}
 use Rattle.std.proofs.lemmas.Bool.{and_from, and_left, and_right, lt-ltb, eq-eqb, ne_eqb, cases_eq, cases_lt, cond-true, cond-false}
 use Rattle.coding.specs.Parity.{decode_letter}
-use Rattle.line.specs.Reading.{page_of, version_of, row_of, readable, letters_of, fragment, HeaderOf}
+use Rattle.line.specs.Reading.{page_of, version_of, row_of, letters_of, fragment, HeaderOf}
 use Rattle.line.specs.declared.Header.{Header}
 use Rattle.line.proofs.Readability.{readable_parts}
 use Rattle.store.specs.Page.{Page, begun, in_version, merge, overlay, apply, ShowsSame}

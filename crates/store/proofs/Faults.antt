@@ -1,7 +1,7 @@
 -- The tests of a slot, and the table of pages seen in place of a comparison of each two slots. Assumes nothing.
-use Rattle.std.proofs.Common.{◌≡◌, ℕ, zero, suc, ◌+◌, ◌*◌, ◌<◌, ◌≤◌, Bool, true, false, not, ◌&&◌, ◌||◌, eqb, ltb, leb, ◌⊎◌, List, length, get_or, set, sym, refl, ap, ◌∙◌, subst, inl, inr, ⊎_elim, add-one, arith, get_or-set_other, get_or-set_same}
-use Rattle.std.proofs.lemmas.Bool.{and_left, and_right, lt-ltb, le-ltb, le-leb, lt-leb, eq-eqb, ne_eqb, cases_eq, cases_Bool, cases_lt, both_ways}
-use Rattle.store.specs.Layout.{slots, mark_at, number_at, holds, letter_fine, letters_fine, alone, slot_fine, slot_count, fine_below, well_formed, FirstFault}
+use Rattle.std.proofs.Common.{◌≡◌, ℕ, zero, suc, ◌+◌, ◌*◌, ◌<◌, ◌≤◌, Bool, true, false, not, ◌&&◌, ◌||◌, eqb, ltb, leb, ◌⊎◌, List, length, get_or, sym, refl, ap, ◌∙◌, subst, inl, inr, ⊎_elim, arith}
+use Rattle.std.proofs.lemmas.Bool.{and_left, and_right, lt-ltb, le-ltb, le-leb, lt-leb, cases_Bool, cases_lt, both_ways}
+use Rattle.store.specs.Layout.{slots, mark_at, number_at, holds, letters_fine, alone, slot_fine, slot_count, fine_below, well_formed, FirstFault}
 use Rattle.store.specs.Directory.{ListsBelow}
 use Rattle.store.proofs.Formed.{fine_are, formed}
 use Rattle.store.proofs.Listing.{held_below, entry_tells}

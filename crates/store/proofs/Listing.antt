@@ -1,9 +1,8 @@
 -- The directory of a store, as slots are passed, begun and written. Assumes nothing.
-use Rattle.std.proofs.Common.{◌≡◌, ℕ, zero, suc, ◌+◌, ◌*◌, ◌<◌, Bool, true, false, not, ◌||◌, eqb, ◌⊎◌, List, length, get_or, set, replicate, sym, refl, ap, ◌∙◌, subst, inl, inr, ⊎_elim, arith, get_or-set_other, get_or-set_same, below_more}
+use Rattle.std.proofs.Common.{◌≡◌, ℕ, zero, suc, ◌+◌, ◌<◌, Bool, true, false, not, ◌||◌, eqb, List, length, get_or, set, replicate, sym, refl, ap, ◌∙◌, subst, inl, inr, ⊎_elim, arith, get_or-set_other, get_or-set_same, below_more}
 use lib.ListN.{get_or-replicate}
 use Rattle.std.proofs.lemmas.Bool.{cases_eq, eq-eqb, ne_eqb, or_left, or_right, or_from, not_from_true, not_from_false}
 use Rattle.store.specs.Layout.{slots, mark_at, number_at, holds}
-use Rattle.store.specs.Slots.{OnlySlot}
 use Rattle.store.specs.Directory.{EntryOf, ListsBelow, TakenBelow, Lists}
 use Rattle.store.specs.Writes.{Found, Begun}
 use Rattle.store.specs.declared.directory.Directory.{Directory}

@@ -1,4 +1,6 @@
 // The store of pages: the layout of its bytes, its check, the slots that pages stand in, and the rows that are handed back.
+#![tactic(auto)]
+
 mod check;
 mod directory;
 mod lanes;

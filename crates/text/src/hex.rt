@@ -132,12 +132,12 @@ mod tests {
         assert!(rt; read_hex(b"02 49 15 5e 15 02 c8\r", &mut bytes)?);
         assert_eq!(rt;
             bytes.as_slice(),
-            &[0x02, 0x49, 0x15, 0x5e, 0x15, 0x02, 0xc8]
+            [0x02, 0x49, 0x15, 0x5e, 0x15, 0x02, 0xc8].as_slice()
         );
         assert!(rt; read_hex(b"  0249155E1502C8 ", &mut bytes)?);
         assert_eq!(rt;
             bytes.as_slice(),
-            &[0x02, 0x49, 0x15, 0x5e, 0x15, 0x02, 0xc8]
+            [0x02, 0x49, 0x15, 0x5e, 0x15, 0x02, 0xc8].as_slice()
         );
         assert!(rt; !read_hex(b"02 0g", &mut bytes)?);
         assert!(rt; bytes.is_empty());

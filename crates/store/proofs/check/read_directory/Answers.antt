@@ -1,5 +1,5 @@
 use Rattle.std.proofs.Common.{◌≡◌, ◌+◌, ◌<◌, length, sym, refl, ap, ◌∙◌, subst, arith, length-set, rules, below_more}
-use Rattle.store.specs.Layout.{number_at, slots}
+use Rattle.store.specs.Layout.{number_at}
 use Rattle.store.specs.Directory.{ListsBelow}
 use Rattle.store.proofs.Faults.{all_fine, slot_whole, slot_few, whole_slots}
 use Rattle.store.proofs.Listing.{lists_none, lists_free, lists_page}

@@ -1,5 +1,5 @@
 use Rattle.std.proofs.Common.{arith}
-use Rattle.store.proofs.HandedBack.{row_fits, no_row, row_part}
+use Rattle.store.proofs.HandedBack.{no_row, row_part}
 use Rattle.store.proofs.rows.row.Goals as goal
 
 pub returns-in-None : goal.returns-in-None
