@@ -3,7 +3,7 @@ use Rattle.std.proofs.Common.{◌≡◌, ℕ, true, false, List, [], ◌∷◌, 
 use Rattle.std.proofs.lemmas.Bool.{both_ways, cond-true, cond-false, eq-eqb, ne_eqb}
 use Rattle.text.specs.Hex.{line_bytes, hex_text}
 use Rattle.text.specs.Lines.{without_newline}
-use Rattle.damage_lines.specs.Passing.{if_line, line_in, Came, Written, after_line, after_row}
+use Rattle.damage_lines.specs.Passing.{if_line, line_in, Came, Written}
 use Rattle.command_line.specs.declared.damage.Settings.{Settings}
 
 none_line : (o : Option (List ℕ)) → is_some o ≡ false → if_line o ≡ None
@@ -46,7 +46,3 @@ written_line t s row line came o before mid after hex none is c empty hexed exte
       subst W (sym is) (Some came, c, refl),
       pushed ∙ ap (λ m. m ++ (10 ∷ [])) (extended ∙ ap (λ h. before ++ h) text) ∙ append_assoc before (hex_text came) (10 ∷ []),
     )
-
--- the state after it
-pub state_after : (t : Settings) (s state : ℕ) (line : List ℕ) (o : Option (List ℕ)) → o ≡ Some line → state ≡ after_line t s → state ≡ after_row t o s
-state_after t s state line o is e = e ∙ sym (ap (λ p. after_row t p s) is)

@@ -1,11 +1,14 @@
 // The air between a sender and a receiver: reads lines in hex from standard input, and writes them lost and damaged at random, within their limits.
+#![tactic(auto)]
+
 mod passing;
 
 use channel::Random;
 use command_line::damage::{Command, Settings, read_command};
-use command_line::words::refuse_words;
+use command_line::words::{refuse_words, status_of};
 use passing::pass_row;
 use std::io::{BufRead, BufReader, Write};
+use std::process::ExitCode;
 use std::{env, io};
 
 const USAGE: &str = "usage: damage_lines [--seed N] [--lose N] [--numbers N] [--letters N]
@@ -17,16 +20,24 @@ What isn't a line of 46 bytes is written as it is.";
 // Rows are written out once there is so much of them.
 const WRITTEN_AT: usize = 65536;
 
-fn main(rt: HostRuntime) -> anyhow::Result<()> {
-    // a word that isn't UTF-8 is none that is known
-    let Ok(words) = read_words(&rt) else {
-        return refuse_words(&rt, USAGE);
+fn main(rt: HostRuntime) -> anyhow::Result<ExitCode> {
+    let words = match read_words(&rt) {
+        Ok(words) => words,
+        // a word that isn't UTF-8 is none that is known
+        Err(e) if e.kind() == io::ErrorKind::InvalidData => return Ok(refuse(&rt)),
+        Err(e) => return Err(e.into()),
     };
     match read_command(words.as_slice()) {
-        Some(Command::Help) => print_usage(&rt),
-        Some(Command::Damage(settings)) => run(&rt, &settings),
-        None => refuse_words(&rt, USAGE),
+        Some(Command::Help) => print_usage(&rt)?,
+        Some(Command::Damage(settings)) => run(&rt, &settings)?,
+        None => return Ok(refuse(&rt)),
     }
+    Ok(ExitCode::SUCCESS)
+}
+
+// Wrong words end with the usage, and nothing more is said.
+fn refuse(rt: &HostRuntime) -> ExitCode {
+    status_of(refuse_words(rt, USAGE))
 }
 
 // The words of the command line behind the program's name.

@@ -7,6 +7,6 @@ loop-row-init c = none_gone c.args.pages.now c.args.schedule.now (string_bytes c
 
 pub loop-row-preserved : goal.loop-row-preserved
 loop-row-preserved c =
-    row_gone c.args.pages.now c.args.schedule.now (string_bytes c.args.out.now) c.loop-row.-row
-    c.loop-row.schedule c.write-row.new.schedule (string_bytes c.loop-row.out) (string_bytes c.write-row.new.out)
-    c.loop-row.invariant c.in-ok-write-row.ensures.written c.in-ok-write-row.ensures.moved
+    row_gone c.args.pages.now c.args.schedule.now (string_bytes c.args.out.now) c.loop-row._row
+    c.loop-row.schedule c.write_row.new.schedule (string_bytes c.loop-row.out) (string_bytes c.write_row.new.out)
+    c.loop-row.invariant c.in_ok-write_row.ensures.written c.in_ok-write_row.ensures.moved

@@ -7,6 +7,6 @@ loop-page-init c = none_gone c.args.pages.now c.args.schedule.now (string_bytes 
 
 pub loop-page-preserved : goal.loop-page-preserved
 loop-page-preserved c =
-    turn_gone c.args.pages.now c.args.schedule.now (string_bytes c.args.out.now) c.loop-page.-page
-    c.loop-page.schedule c.write-turn.new.schedule (string_bytes c.loop-page.out) (string_bytes c.write-turn.new.out)
-    c.loop-page.invariant c.in-ok-write-turn.ensures.written c.write-turn.ensures.moved
+    turn_gone c.args.pages.now c.args.schedule.now (string_bytes c.args.out.now) c.loop-page._page
+    c.loop-page.schedule c.write_turn.new.schedule (string_bytes c.loop-page.out) (string_bytes c.write_turn.new.out)
+    c.loop-page.invariant c.in_ok-write_turn.ensures.written c.write_turn.ensures.moved

@@ -2,18 +2,18 @@ use Rattle.std.proofs.Common.{string_bytes}
 use Rattle.send_pages.proofs.Turns.{text_of_none, text_of_turn}
 use Rattle.send_pages.proofs.sending.write_turn.Goals as goal
 
-pub returns-in-ok-push-str : goal.returns-in-ok-push-str
-returns-in-ok-push-str c =
+pub returns-in_ok-push_str : goal.returns-in_ok-push_str
+returns-in_ok-push_str c =
     record {
       written = text_of_turn c.args.pages.now c.args.schedule.now c.in-Some.line
-          (string_bytes c.args.out.now) (string_bytes c.write-hex.new.out) (string_bytes c.push-str.new.self)
-          c.in-Some.ensures.bytes c.in-ok-write-hex.ensures.written c.in-ok-push-str.ensures.bytes;
-      moved = c.next-line.ensures.moved;
+          (string_bytes c.args.out.now) (string_bytes c.write_hex.new.out) (string_bytes c.push_str.new.self)
+          c.in-Some.ensures.bytes c.in_ok-write_hex.ensures.written c.in_ok-push_str.ensures.bytes;
+      moved = c.next_line.ensures.moved;
     }
 
-pub returns-in-default : goal.returns-in-default
-returns-in-default c =
+pub returns-in_default : goal.returns-in_default
+returns-in_default c =
     record {
-      written = text_of_none c.args.pages.now c.args.schedule.now (string_bytes c.args.out.now) c.in-default.ensures.bytes;
-      moved = c.next-line.ensures.moved;
+      written = text_of_none c.args.pages.now c.args.schedule.now (string_bytes c.args.out.now) c.in_default.ensures.bytes;
+      moved = c.next_line.ensures.moved;
     }
