@@ -1,4 +1,6 @@
 // From text to screen: the calls that both programs make at their ends, and the theorem that joins them.
+#![tactic(auto)]
+
 mod sending;
 mod showing;
 

@@ -1,4 +1,6 @@
 // Page texts: pages as people write them, a heading and then numbered rows, read into pages of 25 rows of 40 letters.
+#![tactic(auto)]
+
 ghost use Rattle.std.specs.Prelude.{◌≡◌};
 ghost use Rattle.page_text.specs.declared.TextError.TheVariants.{Memory};
 

@@ -5,7 +5,7 @@ mod keeping;
 
 use anyhow::anyhow;
 use command_line::receive::{Command, Options, OptionsError, read_command};
-use command_line::words::refuse_words;
+use command_line::words::{refuse_words, status_of};
 use gathering::{gather, take_waiting};
 use intake::{Refusal, take_text};
 use keeping::replace_file;
@@ -13,6 +13,7 @@ use line::Line;
 use page_report::{redraw_page, write_report};
 use receiver::Counts;
 use std::io::{BufRead, BufReader, Write};
+use std::process::ExitCode;
 use std::{env, io};
 use store_file::{Contents, Opened, open_store};
 use text::lines::trim_newline;
@@ -32,19 +33,24 @@ const MOST_WAITING: usize = 1024 * Line::LENGTH;
 // Moves a terminal's cursor to the top, and clears the screen.
 const CLEAR_SCREEN: &str = "\x1b[H\x1b[2J";
 
-fn main(rt: HostRuntime) -> anyhow::Result<()> {
+fn main(rt: HostRuntime) -> anyhow::Result<ExitCode> {
     let words = match read_words(&rt) {
         Ok(words) => words,
         // a word that isn't UTF-8 is none that is known
-        Err(e) if e.kind() == io::ErrorKind::InvalidData => return refuse_words(&rt, USAGE),
+        Err(e) if e.kind() == io::ErrorKind::InvalidData => return Ok(refuse(&rt)),
         Err(e) => return Err(e.into()),
     };
     match read_command(rt.alloc(), words.as_slice()) {
         Ok(Command::Help) => print_usage(&rt),
         Ok(Command::Receive(options)) => receive_pages(&rt, &options),
-        Err(OptionsError::Wrong) => refuse_words(&rt, USAGE),
+        Err(OptionsError::Wrong) => Ok(refuse(&rt)),
         Err(OptionsError::Memory) => Err(anyhow!("no memory")),
     }
+}
+
+// Wrong words end with the usage, and nothing more is said.
+fn refuse(rt: &HostRuntime) -> ExitCode {
+    status_of(refuse_words(rt, USAGE))
 }
 
 // The words of the command line behind the program's name.
@@ -53,31 +59,34 @@ fn read_words(rt: &HostRuntime) -> io::Result<Vec<String>> {
     Ok(words)
 }
 
-fn print_usage(rt: &HostRuntime) -> anyhow::Result<()> {
+fn print_usage(rt: &HostRuntime) -> anyhow::Result<ExitCode> {
     rt.println(USAGE)?;
-    Ok(())
+    Ok(ExitCode::SUCCESS)
 }
 
 // Receives into the store that is asked for, if it can be used.
-fn receive_pages(rt: &HostRuntime, options: &Options) -> anyhow::Result<()> {
+fn receive_pages(rt: &HostRuntime, options: &Options) -> anyhow::Result<ExitCode> {
     let path = match &options.store {
         Some(path) => Some(path.as_str()),
         None => None,
     };
     match open_store(rt, path, options.slots) {
         Ok(Opened { store, contents }) => match contents {
-            Contents::Usable => run(rt, options, store),
+            Contents::Usable => {
+                run(rt, options, store)?;
+                Ok(ExitCode::SUCCESS)
+            }
             Contents::Refused(place) => refuse_store(rt, place),
-            Contents::OtherSlots => refuse_words(rt, USAGE),
+            Contents::OtherSlots => Ok(refuse(rt)),
         },
         Err(e) => Err(store_error(rt, e)),
     }
 }
 
 // Says which slot of the store's file isn't as it should be.
-fn refuse_store(rt: &HostRuntime, place: usize) -> anyhow::Result<()> {
+fn refuse_store(rt: &HostRuntime, place: usize) -> anyhow::Result<ExitCode> {
     eprintln!(rt; "store: refused {REFUSED_STORE}, place {place}")?;
-    Err(anyhow!("the store isn't as it should be"))
+    Ok(ExitCode::FAILURE)
 }
 
 // Takes all of the input, keeps the store, and prints what is asked for, also where the store can't be kept.
