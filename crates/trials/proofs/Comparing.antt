@@ -4,7 +4,7 @@ use Rattle.std.proofs.lemmas.Bool.{and_right, eq-eqb, ne_eqb, cases_eq, cases_Bo
 use Rattle.store.specs.Page.{Page, no_page}
 use Rattle.store.specs.Layout.{slots, mark_at, number_at, holds, well_formed, page_in}
 use Rattle.store.proofs.Formed.{holds_from, holds_parts}
-use Rattle.store.proofs.Pages.{shows_is, shows_then, shows_sym, page_held, page_absent, page_there, absent_there, slot_cases, slot_there, slot_version, slot_letter, none_there}
+use Rattle.store.proofs.Pages.{shows_is, page_held, page_absent, page_there, absent_there, slot_cases, slot_version, slot_letter, none_there}
 use Rattle.trials.specs.Told.{letter_told, page_told}
 use Rattle.trials.specs.Text.{text_letter}
 use Rattle.trials.specs.Same.{held_below, Seen, Same, TrueLetters, SlotSame, Kept}

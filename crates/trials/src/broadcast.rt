@@ -37,7 +37,7 @@ const COMES_LATER: u64 = 250;
 
 // The lines of up to `pages` pages, whose numbers are `stride` apart from each other.
 #[derive(Drop)]
-pub(crate) struct Broadcast {
+pub struct Broadcast {
     random: Random,
     rates: Rates,
     pages: u8,
@@ -49,7 +49,7 @@ pub(crate) struct Broadcast {
 
 impl Broadcast {
     // The broadcast of a seed.
-    pub(crate) fn new(heap: Global, seed: u64) -> Broadcast {
+    pub fn new(heap: Global, seed: u64) -> Broadcast {
         let mut random = Random::new(seed);
         let pages = 1 + random.below(MOST_PAGES) as u8;
         let stride = 1 + 2 * random.below(STRIDES) as u8;
@@ -68,7 +68,7 @@ impl Broadcast {
     }
 
     // How many slots the store is to have.
-    pub(crate) fn draw_slots(&mut self) -> usize
+    pub fn draw_slots(&mut self) -> usize
         ensures some { 1 ≤ result }
         ensures few { result ≤ 60 }
     {
@@ -76,27 +76,27 @@ impl Broadcast {
     }
 
     // The bits that are turned in a line.
-    pub(crate) fn draw_bits(&mut self) -> [u8; 46]
+    pub fn draw_bits(&mut self) -> [u8; 46]
         ensures { LineBy row_line self.old.rates.numbers self.old.rates.letters result }
     {
         let rates = self.rates;
         turned_bits(&rates, &mut self.random)
     }
 
-    pub(crate) fn draw_chance(&mut self, per_mille: u64) -> bool
+    pub fn draw_chance(&mut self, per_mille: u64) -> bool
         ensures { result ≡ comes_about per_mille self.old.random.state }
     {
         self.random.chance(per_mille)
     }
 
-    pub(crate) fn draw_below(&mut self, limit: u64) -> u64
+    pub fn draw_below(&mut self, limit: u64) -> u64
         ensures { result ≡ drawn_below limit self.old.random.state }
     {
         self.random.below(limit)
     }
 
     // The line that comes next; none where one is lost on the way or kept for later.
-    pub(crate) fn next_line(&mut self) -> Result<Option<Sent>, AllocError> {
+    pub fn next_line(&mut self) -> Result<Option<Sent>, AllocError> {
         if self.random.chance(COMES_LATER) {
             return Ok(self.take_late());
         }
@@ -115,7 +115,9 @@ impl Broadcast {
     }
 
     // A line as it is sent: any row of any of the pages, of which one may have got a new version.
-    fn new_line(&mut self) -> Sent {
+    fn new_line(&mut self) -> Sent
+        ensures { result.row < 25 }
+    {
         let page = (self.random.below(self.pages as u64) as u8).wrapping_mul(self.stride);
         if self.random.chance(NEW_VERSION) {
             let version = self.versions[page as usize];

@@ -13,7 +13,7 @@ pub(crate) const TAKEN: u8 = 1;
 pub(crate) const LETTERS_AT: usize = 3;
 
 // Whether a store is well-formed and shows each page as the reference has it; then no letter in it is false.
-pub(crate) fn same_pages(store: &[u8], reference: &Reference) -> bool
+pub fn same_pages(store: &[u8], reference: &Reference) -> bool
     ensures same { Decides result (Same store.now reference.now) }
     ensures letters { result ≡ true → TrueLetters store.now }
 {

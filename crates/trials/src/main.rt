@@ -1,4 +1,6 @@
 // Trials of the receiver: random broadcasts beside a reference that is told what was sent, and pages sent whole into any store.
+#![tactic(auto)]
+
 mod broadcast;
 mod compare;
 mod recovery;
@@ -46,13 +48,12 @@ fn print_tally(rt: &HostRuntime, tally: Tally) -> anyhow::Result<()> {
         lost,
         full,
         refused,
-        pages,
         letters,
         recovered,
         without_room,
     } = tally;
     println!(rt; "lines: {taken} taken, {lost} lost, {full} without room, {refused} refused")?;
-    println!(rt; "compared after the lines: {pages} pages in the store, {letters} letters shown")?;
+    println!(rt; "letters compared: {letters}")?;
     println!(rt; "pages sent whole: {recovered} recovered, {without_room} without room")?;
     Ok(())
 }

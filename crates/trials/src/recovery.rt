@@ -32,7 +32,7 @@ const TURNED: Rates = Rates {
 const FREE: u8 = 0;
 
 // Sends one page of a seed whole: whether it stands whole, or there was no room for it.
-pub(crate) fn run_recovery(heap: Global, seed: u64, tally: &mut Tally) -> Result<bool, AllocError> {
+pub fn run_recovery(heap: Global, seed: u64, tally: &mut Tally) -> Result<bool, AllocError> {
     let mut random = Random::new(seed);
     let slots = 1 + random.below(MOST_SLOTS as u64) as usize;
     let mut store = vec![in heap; 0u8; SLOT_SIZE * slots]?;

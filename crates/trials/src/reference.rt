@@ -18,7 +18,7 @@ pub(crate) const PAGE_LETTERS: usize = ROWS * COLUMNS;
 
 // What is to be answered for a line.
 #[derive(Clone, Copy)]
-pub(crate) enum Answer {
+pub enum Answer {
     Took,
     Lost,
     Full,
@@ -26,21 +26,21 @@ pub(crate) enum Answer {
 
 // The pages that have to be in the store, and how many lines were lost or found no room. Each of its letters was sent in the version that its page has.
 #[derive(Drop)]
-pub(crate) struct Reference {
+pub struct Reference {
     slots: usize,
-    pub(crate) count: usize,
+    count: usize,
     pub(crate) there: [bool; 256],
     pub(crate) versions: [u8; 256],
     pub(crate) letters: Vec<u8>,
-    pub(crate) lost: u64,
-    pub(crate) full: u64,
+    pub lost: u64,
+    pub full: u64,
     ghost long: { vec_len letters ≡ 256000 },
     ghost sent: { OnlySent versions letters.items },
 }
 
 impl Reference {
     // No pages, with room for so many.
-    pub(crate) fn new(heap: Global, slots: usize) -> Result<Reference, AllocError> {
+    pub fn new(heap: Global, slots: usize) -> Result<Reference, AllocError> {
         Ok(Reference {
             slots,
             count: 0,
@@ -53,7 +53,7 @@ impl Reference {
     }
 
     // The version of a page that is there.
-    pub(crate) fn version(&self, page: u8) -> Option<u8>
+    pub fn version(&self, page: u8) -> Option<u8>
         ensures { result ≡ version_told self.now.there self.now.versions page }
     {
         if self.there[page as usize] {
@@ -64,15 +64,14 @@ impl Reference {
     }
 
     // The letter at a row and a column of a page; 0 where none is known.
-    pub(crate) fn letter(&self, sent: Sent, column: usize) -> u8
-        requires { column < 40 }
-        ensures { result ≡ letter_told self.now.letters.items sent.page sent.row column }
+    pub fn letter(&self, sent: Sent, column: usize) -> u8
+        ensures { column < 40 → result ≡ letter_told self.now.letters.items sent.page sent.row column }
     {
-        self.letters[place(sent, column)]
+        self.letters.get(place(sent, column)).copied().unwrap_or(0)
     }
 
     // Takes a line that was sent and came with bits turned.
-    pub(crate) fn take(&mut self, sent: Sent, bits: &[u8; 46]) -> Answer
+    pub fn take(&mut self, sent: Sent, bits: &[u8; 46]) -> Answer
         ensures answer { Due result (TwoTurned bits.now) (slice_index_or self.old.there sent.page false) self.old.count self.old.slots }
         ensures lost { self.new.lost ≡ lost_after self.old.lost result }
         ensures full { self.new.full ≡ full_after self.old.full result }
@@ -144,10 +143,9 @@ fn letter_after(sent: Sent, column: usize, bits: u8, old: u8) -> u8
 
 // Where a letter stands among all letters.
 fn place(sent: Sent, column: usize) -> usize
-    requires { column < 40 }
-    ensures { result ≡ 1000 * sent.page + (40 * sent.row + column) }
+    ensures { column < 40 → result ≡ 1000 * sent.page + 40 * sent.row + column }
 {
-    PAGE_LETTERS * sent.page as usize + (COLUMNS * sent.row as usize + column)
+    (PAGE_LETTERS * sent.page as usize + COLUMNS * sent.row as usize).saturating_add(column)
 }
 
 // Whether two bits are turned in one of the numbers' bytes.

@@ -15,16 +15,16 @@ const SPREAD: u64 = 0x9E37_79B9_7F4A_7C15;
 
 // A line that is sent: a row of a page in a version.
 #[derive(Clone, Copy)]
-pub(crate) struct Sent {
-    pub(crate) page: u8,
-    pub(crate) version: u8,
-    pub(crate) row: u8,
+pub struct Sent {
+    pub page: u8,
+    pub version: u8,
+    pub row: u8,
     ghost low: { row < 25 },
 }
 
 impl Sent {
     // The letter at a column.
-    pub(crate) fn letter(&self, column: usize) -> u8
+    pub fn letter(&self, column: usize) -> u8
         ensures value { result ≡ text_letter self.now.page self.now.version self.now.row column }
         ensures letter { is_letter result ≡ true }
     {
@@ -38,7 +38,7 @@ impl Sent {
     }
 
     // The line with its letters.
-    pub(crate) fn line(&self) -> Line
+    pub fn line(&self) -> Line
         ensures page { result.page ≡ self.now.page }
         ensures version { result.version ≡ self.now.version }
         ensures row { result.row ≡ self.now.row }

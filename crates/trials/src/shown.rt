@@ -11,7 +11,7 @@ use receiver::row;
 use store::version;
 
 // Whether a page is shown as the reference has it, and each letter as it was sent.
-pub(crate) fn shows_page(store: &[u8], reference: &Reference, page: u8, tally: &mut Tally) -> bool {
+pub fn shows_page(store: &[u8], reference: &Reference, page: u8, tally: &mut Tally) -> bool {
     let stands = version(store, page as u64);
     if stands != reference.version(page) {
         return false;
@@ -41,7 +41,7 @@ pub(crate) fn shows_page(store: &[u8], reference: &Reference, page: u8, tally: &
 }
 
 // Whether all pages are.
-pub(crate) fn shows_pages(store: &[u8], reference: &Reference, tally: &mut Tally) -> bool {
+pub fn shows_pages(store: &[u8], reference: &Reference, tally: &mut Tally) -> bool {
     for page in 0..=255u8 {
         if !shows_page(store, reference, page, tally) {
             return false;
@@ -69,7 +69,7 @@ fn shows_row(shown: &[u8], reference: &Reference, sent: Sent) -> bool
 }
 
 // Whether a row that is shown has each letter as it was sent.
-pub(crate) fn whole_row(shown: &[u8], sent: Sent) -> bool
+pub fn whole_row(shown: &[u8], sent: Sent) -> bool
     ensures { Decides result (WholeRow sent shown.now) }
 {
     if shown.len() != COLUMNS {

@@ -1,25 +1,24 @@
 // What the trials count; a count stops at its largest.
 ghost use Rattle.std.specs.Prelude.{◌≡◌};
-ghost use Rattle.trials.specs.Counts.{nothing, with_answer, with_refused, with_pages, with_row, with_recovery};
+ghost use Rattle.trials.specs.Counts.{nothing, with_answer, with_refused, with_row, with_recovery};
 
 use crate::reference::Answer;
 use line::COLUMNS;
 
 #[derive(Clone, Copy)]
-pub(crate) struct Tally {
-    pub(crate) taken: u64,
-    pub(crate) lost: u64,
-    pub(crate) full: u64,
-    pub(crate) refused: u64,
-    pub(crate) pages: u64,
-    pub(crate) letters: u64,
-    pub(crate) recovered: u64,
-    pub(crate) without_room: u64,
+pub struct Tally {
+    pub taken: u64,
+    pub lost: u64,
+    pub full: u64,
+    pub refused: u64,
+    pub letters: u64,
+    pub recovered: u64,
+    pub without_room: u64,
 }
 
 impl Tally {
     // Nothing yet.
-    pub(crate) fn new() -> Tally
+    pub fn new() -> Tally
         ensures { result ≡ nothing }
     {
         Tally {
@@ -27,7 +26,6 @@ impl Tally {
             lost: 0,
             full: 0,
             refused: 0,
-            pages: 0,
             letters: 0,
             recovered: 0,
             without_room: 0,
@@ -35,7 +33,7 @@ impl Tally {
     }
 
     // A line, by its answer.
-    pub(crate) fn count_answer(&mut self, answer: Answer)
+    pub fn count_answer(&mut self, answer: Answer)
         ensures { self.new ≡ with_answer self.old answer }
     {
         match answer {
@@ -46,28 +44,21 @@ impl Tally {
     }
 
     // A line that was turned away.
-    pub(crate) fn count_refused(&mut self)
+    pub fn count_refused(&mut self)
         ensures { self.new ≡ with_refused self.old }
     {
         self.refused = self.refused.saturating_add(1);
     }
 
-    // Pages of the store that were compared.
-    pub(crate) fn count_pages(&mut self, pages: usize)
-        ensures { self.new ≡ with_pages self.old pages }
-    {
-        self.pages = self.pages.saturating_add(pages as u64);
-    }
-
     // A row whose letters were compared.
-    pub(crate) fn count_row(&mut self)
+    pub fn count_row(&mut self)
         ensures { self.new ≡ with_row self.old }
     {
         self.letters = self.letters.saturating_add(COLUMNS as u64);
     }
 
     // A page that was sent whole: it stands whole, or there was no room for it.
-    pub(crate) fn count_recovery(&mut self, whole: bool)
+    pub fn count_recovery(&mut self, whole: bool)
         ensures { self.new ≡ with_recovery self.old whole }
     {
         if whole {

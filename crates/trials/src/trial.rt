@@ -20,6 +20,9 @@ use store::{MOST_SLOTS, SLOT_SIZE};
 // How many lines are sent in a trial.
 const SENT: u64 = 1500;
 
+// All pages are shown after so many.
+const ALL_AFTER: u64 = 500;
+
 // How often a line comes with another length, in a thousand.
 const OTHER_LENGTH: u64 = 20;
 
@@ -38,15 +41,14 @@ struct Receiving {
 }
 
 // Sends the broadcast of a seed. The line after which the store isn't as the reference has it, if there is one.
-pub(crate) fn run_trial(
-    heap: Global,
-    seed: u64,
-    tally: &mut Tally,
-) -> Result<Option<u64>, AllocError> {
+pub fn run_trial(heap: Global, seed: u64, tally: &mut Tally) -> Result<Option<u64>, AllocError> {
     let mut broadcast = Broadcast::new(heap, seed);
     let slots = broadcast.draw_slots();
     let mut receiving = Receiving::new(heap, slots)?;
     for at in 0..SENT {
+        if at % ALL_AFTER == 0 && !receiving.is_same(tally) {
+            return Ok(Some(at));
+        }
         let Some(sent) = broadcast.next_line()? else {
             continue;
         };
@@ -61,7 +63,7 @@ pub(crate) fn run_trial(
             return Ok(Some(at));
         }
     }
-    if receiving.shows_all(tally) {
+    if receiving.is_same(tally) {
         Ok(None)
     } else {
         Ok(Some(SENT))
@@ -101,7 +103,7 @@ impl Receiving {
         if !is_answer(done, answer) {
             return Ok(false);
         }
-        Ok(self.is_same(sent.page, tally))
+        Ok(self.is_same_at(sent.page, tally))
     }
 
     // Takes a line that came with another length, if it is another: whether it is turned away and changes nothing.
@@ -116,7 +118,7 @@ impl Receiving {
         ensures kept { IfOk result (λ fine. fine ≡ true → self.old.store.items ≡ self.new.store.items) }
     {
         if length == Line::LENGTH || length > LONGEST {
-            return Ok(self.is_same(sent.page, tally));
+            return Ok(self.is_as_told());
         }
         let bytes = lengthened(&sent.line().encode());
         let before = Vec::from_slice(heap, self.store.as_slice())?;
@@ -128,7 +130,7 @@ impl Receiving {
         if !matches!(done, Done::Refused(REFUSED_LINE)) {
             return Ok(false);
         }
-        Ok(self.is_same(sent.page, tally))
+        Ok(self.is_same_at(sent.page, tally))
     }
 
     // Takes a line into the store.
@@ -142,19 +144,24 @@ impl Receiving {
         done
     }
 
-    // Whether the counts and all pages are as the reference has them, and the calls show a page so.
-    fn is_same(&self, page: u8, tally: &mut Tally) -> bool
+    // Whether the counts and all pages are as the reference has them.
+    fn is_as_told(&self) -> bool
         ensures { result ≡ true → AsTold self.now }
     {
-        tally.count_pages(self.reference.count);
         self.counts.lost == self.reference.lost
             && self.counts.full == self.reference.full
             && same_pages(self.store.as_slice(), &self.reference)
-            && shows_page(self.store.as_slice(), &self.reference, page, tally)
+    }
+
+    // Whether they are, and the calls show a page so.
+    fn is_same_at(&self, page: u8, tally: &mut Tally) -> bool
+        ensures { result ≡ true → AsTold self.now }
+    {
+        self.is_as_told() && shows_page(self.store.as_slice(), &self.reference, page, tally)
     }
 
     // Whether the calls show all pages as the reference has them.
-    fn shows_all(&self, tally: &mut Tally) -> bool {
+    fn is_same(&self, tally: &mut Tally) -> bool {
         shows_pages(self.store.as_slice(), &self.reference, tally)
     }
 }

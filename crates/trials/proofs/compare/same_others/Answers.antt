@@ -1,4 +1,4 @@
-use Rattle.std.proofs.Common.{◌≡◌, false, refl, below_more}
+use Rattle.std.proofs.Common.{false, refl, below_more}
 use Rattle.std.proofs.lemmas.Bool.{both_ways}
 use Rattle.store.specs.Layout.{holds}
 use Rattle.trials.proofs.compare.same_others.Goals as goal

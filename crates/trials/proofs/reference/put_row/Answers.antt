@@ -1,6 +1,6 @@
-use Rattle.std.proofs.Common.{◌≡◌, ◌+◌, ◌*◌, ◌<◌, length, get_or, set, sym, ap, ◌∙◌, subst, arith}
+use Rattle.std.proofs.Common.{◌≡◌, ◌+◌, ◌*◌, get_or, set, sym, ap, ◌∙◌, subst, arith}
 use Rattle.trials.specs.Told.{letter_after, RowPut}
-use Rattle.trials.proofs.Telling.{row_none, row_more}
+use Rattle.trials.proofs.Telling.{row_more}
 use Rattle.trials.proofs.reference.put_row.Goals as goal
 
 pub loop-column-preserved : goal.loop-column-preserved
@@ -11,7 +11,7 @@ loop-column-preserved c =
     let column = c.loop-column.column in
     let letters = c.loop-column.letters in
     let bits = c.args.bits.now in
-    let at = c.place-at.ensures in
+    let at : c.place-at.result ≡ 1000 * page + (40 * row + column) = omega (arith, c.place-at.ensures, c.loop-column-test.true) in
     let is : c.letter_after.result ≡ letter_after page version row column (get_or bits (6 + column) 0) (get_or letters (1000 * page + (40 * row + column)) 0) = c.letter_after.ensures ∙ ap (λ j. letter_after page version row column (get_or bits (6 + column) 0) (get_or letters j 0)) at in
     subst (λ j. RowPut page version row bits c.args.letters.now (set letters j c.letter_after.result) (column + 1)) (sym at)
     (row_more page version row bits c.args.letters.now letters column c.letter_after.result c.loop-column.invariant (omega (arith, c.args.sent.low, c.loop-column.auto.letters, c.requires)) is)

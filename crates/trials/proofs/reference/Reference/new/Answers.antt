@@ -6,4 +6,4 @@ pub invariant_of-result : goal.invariant_of-result
 invariant_of-result c =
     let made = c.in_ok-vec.ensures in
     let exact = c.in_ok-vec.ensures.items_if_clones_equal in
-    (made.len, (sent_none (replicate 256 0) _ 256000 (exact (λ y e. e)), tt))
+    record { long = made.len; sent = sent_none (replicate 256 0) _ 256000 (exact (λ y e. e)) }

@@ -8,11 +8,10 @@ invariant_of-self-2 c =
     let begun = c.begin.new.self in
     let letters = c.put_row.new.letters in
     let long : length letters ≡ begun.letters.len = c.put_row.auto.letters ∙ c.as_mut_slice.ensures.len in
-    let before : OnlySent begun.versions c.as_mut_slice.result.now = subst (OnlySent begun.versions) (sym c.as_mut_slice.ensures.value) begun.sent in (
-      begun.long,
-      (
-        subst (OnlySent begun.versions) (sym (refilled letters begun.letters.items begun.letters.len long))
-            (sent_row begun.versions c.args.bits.now c.as_mut_slice.result.now letters c.args.sent.page c.args.sent.version c.args.sent.row c.args.sent.low c.begin.ensures.version before c.put_row.ensures),
-        tt,
-      ),
-    )
+    let before : OnlySent begun.versions c.as_mut_slice.result.now = subst (OnlySent begun.versions) (sym c.as_mut_slice.ensures.value) begun.sent in
+    record {
+      long = begun.long;
+      sent =
+          subst (OnlySent begun.versions) (sym (refilled letters begun.letters.items begun.letters.len long))
+          (sent_row begun.versions c.args.bits.now c.as_mut_slice.result.now letters c.args.sent.page c.args.sent.version c.args.sent.row c.args.sent.low c.begin.ensures.version before c.put_row.ensures);
+    }

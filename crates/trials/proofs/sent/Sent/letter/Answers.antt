@@ -1,4 +1,4 @@
-use Rattle.std.proofs.Common.{ℕ, ◌+◌, ap, ◌∙◌, arith}
+use Rattle.std.proofs.Common.{◌+◌, ap, ◌∙◌, arith}
 use Rattle.coding.proofs.Letters.{letter_from}
 use Rattle.channel.specs.Random.{next_state, drawn_below}
 use Rattle.trials.specs.Text.{text_letter}

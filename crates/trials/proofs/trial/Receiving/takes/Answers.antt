@@ -11,7 +11,7 @@ returns c =
     let answer = c.take-answer.result in
     let copied = c.as_slice-2.ensures.value ∙ c.in_ok-before.ensures.items ∙ c.as_slice.ensures.value in
     record {
-      told = c.is_same.ensures;
+      told = c.is_same_at.ensures;
       kept = λ _. (
         answer,
         subst (λ (ref : Reference). Due answer (TwoTurned c.args.bits.now) (get_or ref.there page false) ref.count ref.slots) c.receive-done.ensures.reference c.take-answer.ensures.answer,
