@@ -1,6 +1,6 @@
 -- A broadcast of a text has one text for each version of a page. Assumes nothing.
 use Rattle.std.proofs.Common.{◌≡◌, ℕ, ◌+◌, ◌*◌, ◌<◌, ◌&&◌, eqb, ltb, List, map, get_or, take, drop, sym, refl, ap, ◌∙◌, subst, arith, get_or-drop, get_or-take}
-use Rattle.std.specs.List.{AllByRecursion as All}
+use Rattle.std.specs.List.{AllByRecursion}
 use Rattle.std.proofs.lemmas.Bool.{and_parts, eqb-true, ltb-true, cond_both}
 use Rattle.line.specs.Line.{letters_at, meaning}
 use Rattle.line.specs.declared.Line.{Line}
@@ -11,7 +11,7 @@ use Rattle.page_text.specs.declared.Page.{Page}
 use Rattle.broadcast.specs.Sending.{LineOfText, BroadcastOf}
 use Rattle.broadcast.specs.Showing.{text_letter}
 
-all_among : {A : Type 0} (P : A → Type 0) (x : A) (xs : List A) → All P xs → Among x xs → P x
+all_among : {A : Type 0} (P : A → Type 0) (x : A) (xs : List A) → AllByRecursion P xs → Among x xs → P x
 all_among P x _ h (here xs) = h.0
 all_among P x _ h (there y xs i) = all_among P x xs h.1 i
 

@@ -1,7 +1,7 @@
 -- The decimal digits of bytes: what is written as a number is read as that number. Assumes nothing.
 use Rattle.std.proofs.Common.{◌≡◌, ℕ, suc, ◌+◌, ◌<◌, ◌≤◌, Bool, true, false, ◌&&◌, eqb, ltb, leb, List, [], ◌∷◌, ◌++◌, length, get_or, take, drop, Some, sym, refl, ap, ◌∙◌, ⊎_elim, one-add, arith}
 use Rattle.std.specs.Char.{is_ascii_digit}
-use Rattle.std.specs.List.{prefix_len, AllByRecursion as All}
+use Rattle.std.specs.List.{prefix_len, AllByRecursion}
 use Rattle.std.proofs.lemmas.List.{take_at, drop_at}
 use Rattle.std.proofs.lemmas.Bool.{and_parts, eqb-true, leb-true, ltb-true, cond-true, cond-false, cond_both, cases_Bool}
 use Rattle.coding.proofs.Below.{all_below, below_at}
@@ -78,8 +78,8 @@ number_written places greatest n rest h short low end =
     number_found places greatest (ds ++ rest) (omega (arith, d.some)) (omega arith) (omega arith) ∙ (λ i. Some (is i, back i))
 
 -- digits are no control codes
-pub digits_plain : (n : ℕ) → All (λ b. 32 ≤ b) (decimal n)
+pub digits_plain : (n : ℕ) → AllByRecursion (λ b. 32 ≤ b) (decimal n)
 unfolding decimal
 digits_plain n =
-    cond_both (ltb n 10) _ _ (All (λ b. 32 ≤ b)) (λ _. (omega arith, tt))
-    (λ _. cond_both (ltb n 100) _ _ (All (λ b. 32 ≤ b)) (λ _. (omega arith, (omega arith, tt))) (λ _. (omega arith, (omega arith, (omega arith, tt)))))
+    cond_both (ltb n 10) _ _ (AllByRecursion (λ b. 32 ≤ b)) (λ _. (omega arith, tt))
+    (λ _. cond_both (ltb n 100) _ _ (AllByRecursion (λ b. 32 ≤ b)) (λ _. (omega arith, (omega arith, tt))) (λ _. (omega arith, (omega arith, (omega arith, tt)))))

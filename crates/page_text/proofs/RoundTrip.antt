@@ -1,6 +1,6 @@
 -- The text of sound pages is read as just those pages. Assumes nothing.
 use Rattle.std.proofs.Common.{◌≡◌, ℕ, zero, suc, ◌+◌, ◌-◌, ◌*◌, ◌<◌, ◌≤◌, Bool, true, false, ◌&&◌, ◌||◌, eqb, ltb, leb, List, [], ◌∷◌, ◌++◌, map, length, get_or, take, drop, set, replicate, Some, None, codes, sym, refl, ap, ◌∙◌, ⊎_elim, append_assoc, append-nil, add-zero, add-one, arith, take-add}
-use Rattle.std.specs.List.{AllByRecursion as All}
+use Rattle.std.specs.List.{AllByRecursion}
 use Rattle.std.proofs.ByRecursion.{All-append, All-take, All-drop, All-get_or, All-weaker}
 use Rattle.std.proofs.lemmas.List.{length_push, length-take-le, length-drop, length-replicate, take_at, take_all, drop-drop, drop_at, drop-replicate, get_or_append_left, get_or-append_right, get_or-replicate, set-append_right, replicate_more, get_or_past}
 use Rattle.std.proofs.lemmas.Bool.{and_from, and_parts, or_from, or_parts, cond-true, cond-false, ne_eqb, le-leb, leb-true, cases_lt}
@@ -32,13 +32,13 @@ letter_plain c e = leb-true 32 c (and_parts (leb 32 c) (ltb c 128) e).0
 plain_in_line : (b : ℕ) → Plain b → in_line b ≡ true
 plain_in_line b h = let other : b ≡ 10 → ⊥ = λ e. omega arith in rw (ne_eqb b 10 other) refl
 
-line_cut : (l rest : List ℕ) → All Plain l → lines_of (l ++ 10 ∷ rest) ≡ l ∷ lines_of rest
+line_cut : (l rest : List ℕ) → AllByRecursion Plain l → lines_of (l ++ 10 ∷ rest) ≡ l ∷ lines_of rest
 unfolding lines_of before_first
 line_cut [] rest a = refl
 line_cut (b ∷ l) rest a =
     cond-true (in_line b) (before_first b (lines_of (l ++ 10 ∷ rest))) ([] ∷ lines_of (l ++ 10 ∷ rest)) (plain_in_line b a.0) ∙ ap (before_first b) (line_cut l rest a.1)
 
-no_return : (l : List ℕ) → All Plain l → without_return l ≡ l
+no_return : (l : List ℕ) → AllByRecursion Plain l → without_return l ≡ l
 no_return l a =
     let other : get_or l (length l - 1) 0 ≡ 13 → ⊥ = λ e. ⊎_elim
     (λ (some : 0 < length l). let low : 32 ≤ get_or l (length l - 1) 0 = All-get_or Plain l (length l - 1) 0 (omega arith) a in omega arith)
@@ -46,7 +46,7 @@ no_return l a =
     (cases_lt 0 (length l)) in
     sym (no_return_stays l other)
 
-read_line : (k : ℕ) (s t : Reading) (l rest : List ℕ) → All Plain l → read_on (what_says l) s ≡ Some t → read_lines k s (lines_of (ended l ++ rest)) ≡ read_lines (k + 1) t (lines_of rest)
+read_line : (k : ℕ) (s t : Reading) (l rest : List ℕ) → AllByRecursion Plain l → read_on (what_says l) s ≡ Some t → read_lines k s (lines_of (ended l ++ rest)) ≡ read_lines (k + 1) t (lines_of rest)
 unfolding read_lines by_reading
 read_line k s t l rest a e =
     ap (λ x. read_lines k s (lines_of x)) (append_assoc l (10 ∷ []) rest)
@@ -55,7 +55,7 @@ read_line k s t l rest a e =
     ∙ ap (λ o. by_reading k o (λ t. read_lines (k + 1) t (lines_of rest))) e
 
 -- a heading as it is written
-heading_plain : (n v : ℕ) → All Plain (heading_line n v)
+heading_plain : (n v : ℕ) → AllByRecursion Plain (heading_line n v)
 unfolding heading_line
 heading_plain n v =
     All-append Plain (codes "page ") (decimal n ++ (codes " version " ++ decimal v)) (omega arith, (omega arith, (omega arith, (omega arith, (omega arith, tt)))))
@@ -78,12 +78,12 @@ heading_said n v hn hv = sym (says_heading (heading_line n v) (λ e. omega arith
 abbrev slice : ℕ → List ℕ → List ℕ
 slice r letters = take columns (drop (columns * r) letters)
 
-all_written : (ls : List ℕ) → All Letter ls → all_letters ls ≡ true
+all_written : (ls : List ℕ) → AllByRecursion Letter ls → all_letters ls ≡ true
 unfolding all_letters
 all_written [] a = refl
 all_written (l ∷ ls) a = and_from (is_letter l) (all_letters ls) a.0 (all_written ls a.1)
 
-row_plain : (r : ℕ) (letters : List ℕ) → All Letter letters → All Plain (row_line r letters)
+row_plain : (r : ℕ) (letters : List ℕ) → AllByRecursion Letter letters → AllByRecursion Plain (row_line r letters)
 unfolding row_line
 row_plain r letters a =
     All-append Plain (decimal r) (32 ∷ slice r letters) (digits_plain r) (omega arith, All-take Plain columns (drop (columns * r) letters) (All-drop Plain (columns * r) letters (All-weaker Letter Plain letter_plain letters a)))
@@ -94,7 +94,7 @@ unfolding after
 no_heading [] low high = refl
 no_heading (d ∷ ds) low high = cond-false (eqb 112 d) _ None (ne_eqb 112 d (λ e. omega arith))
 
-module _ (r : ℕ) (letters : List ℕ) (within : r < rows) (long : length letters ≡ rows * columns) (written : All Letter letters) where
+module _ (r : ℕ) (letters : List ℕ) (within : r < rows) (long : length letters ≡ rows * columns) (written : AllByRecursion Letter letters) where
   length_slice : length (slice r letters) ≡ columns
   length_slice = length-take-le columns (drop (columns * r) letters) (omega (arith, length-drop (columns * r) letters))
 
@@ -241,9 +241,9 @@ has_push n (q ∷ ps) p e other =
     or_from (eqb q.number n) (has_page n (ps ++ p ∷ [])) parts.0 (has_push n ps p parts.1 other)
 
 abbrev New : List Page → List Page → Type 0
-New done ps = All (λ (q : Page). has_page q.number done ≡ false) ps
+New done ps = AllByRecursion (λ (q : Page). has_page q.number done ≡ false) ps
 
-new_push : (done ps : List Page) (p : Page) → New done ps → All (λ m. m ≡ p.number → ⊥) (map (λ (q : Page). q.number) ps) → New (done ++ p ∷ []) ps
+new_push : (done ps : List Page) (p : Page) → New done ps → AllByRecursion (λ m. m ≡ p.number → ⊥) (map (λ (q : Page). q.number) ps) → New (done ++ p ∷ []) ps
 new_push done [] p a b = tt
 new_push done (q ∷ ps) p a b = (has_push q.number done p a.0 b.0, new_push done ps p a.1 b.1)
 
@@ -252,7 +252,7 @@ unfolding has_page
 new_none [] = tt
 new_none (p ∷ ps) = (refl, new_none ps)
 
-pages_all : (ps : List Page) (k : ℕ) (s : Reading) → New s.begun ps → Distinct (map (λ (q : Page). q.number) ps) → All Whole ps → read_lines k s (lines_of (pages_text ps)) ≡ pages_read (s.begun ++ ps)
+pages_all : (ps : List Page) (k : ℕ) (s : Reading) → New s.begun ps → Distinct (map (λ (q : Page). q.number) ps) → AllByRecursion Whole ps → read_lines k s (lines_of (pages_text ps)) ≡ pages_read (s.begun ++ ps)
 unfolding read_lines lines_of read_all
 pages_all [] k s new d w = ap pages_read (sym (append-nil s.begun))
 pages_all (p ∷ ps) k s new d w =

@@ -1,6 +1,6 @@
 -- The pages of a text that is read are sound. Assumes nothing.
 use Rattle.std.proofs.Common.{◌≡◌, ℕ, zero, suc, ◌+◌, ◌-◌, ◌*◌, ◌≤◌, Bool, true, false, cond, ◌||◌, eqb, List, [], ◌∷◌, ◌++◌, map, length, get_or, take, drop, replicate, Some, None, Option, sym, refl, ap, subst, arith}
-use Rattle.std.specs.List.{AllByRecursion as All}
+use Rattle.std.specs.List.{AllByRecursion}
 use Rattle.std.proofs.ByRecursion.{All-append, All-push, All-take, All-drop}
 use Rattle.std.proofs.lemmas.List.{length-append, length-take-le, length-drop, length-replicate, map_push}
 use Rattle.std.proofs.lemmas.Bool.{or_parts, and_parts, eqb-false}
@@ -13,11 +13,11 @@ use Rattle.page_text.specs.Laws.{Distinct, Whole, Sound, PagesAreSound}
 use Rattle.page_text.proofs.LineItems.{RowFits, said_row_fits, HeadingFits, said_heading_fits}
 
 -- a number that is new stays apart from the others
-distinct_push : (ns : List ℕ) (n : ℕ) → Distinct ns → All (λ m. m ≡ n → ⊥) ns → Distinct (ns ++ n ∷ [])
+distinct_push : (ns : List ℕ) (n : ℕ) → Distinct ns → AllByRecursion (λ m. m ≡ n → ⊥) ns → Distinct (ns ++ n ∷ [])
 distinct_push [] n d a = (tt, tt)
 distinct_push (m ∷ ns) n d a = (All-push (λ x. x ≡ m → ⊥) ns n d.0 (λ e. a.0 (sym e)), distinct_push ns n d.1 a.1)
 
-number_new : (n : ℕ) (ps : List Page) → has_page n ps ≡ false → All (λ m. m ≡ n → ⊥) (map (λ (p : Page). p.number) ps)
+number_new : (n : ℕ) (ps : List Page) → has_page n ps ≡ false → AllByRecursion (λ m. m ≡ n → ⊥) (map (λ (p : Page). p.number) ps)
 unfolding has_page
 number_new n [] e = tt
 number_new n (p ∷ ps) e =
@@ -25,7 +25,7 @@ number_new n (p ∷ ps) e =
     (eqb-false p.number n parts.0, number_new n ps parts.1)
 
 -- letters stay letters
-all_replicate : {X : Type 0} (P : X → Type 0) (n : ℕ) (x : X) → P x → All P (replicate n x)
+all_replicate : {X : Type 0} (P : X → Type 0) (n : ℕ) (x : X) → P x → AllByRecursion P (replicate n x)
 all_replicate P zero x h = tt
 all_replicate P (suc n) x h = (h, all_replicate P n x h)
 
@@ -36,7 +36,7 @@ blank_letter : Letter 32
 unfolding is_letter
 blank_letter = refl
 
-letters_all : (ls : List ℕ) → all_letters ls ≡ true → All Letter ls
+letters_all : (ls : List ℕ) → all_letters ls ≡ true → AllByRecursion Letter ls
 unfolding all_letters
 letters_all [] e = tt
 letters_all (l ∷ ls) e = let parts = and_parts (is_letter l) (all_letters ls) e in (parts.0, letters_all ls parts.1)
@@ -71,7 +71,7 @@ whole_row r ls p fits w =
     }
 
 -- the last page changed
-all_on_last : (P : Page → Type 0) (f : Page → Page) (ps : List Page) → ((p : Page) → P p → P (f p)) → All P ps → All P (on_last f ps)
+all_on_last : (P : Page → Type 0) (f : Page → Page) (ps : List Page) → ((p : Page) → P p → P (f p)) → AllByRecursion P ps → AllByRecursion P (on_last f ps)
 unfolding on_last
 all_on_last P f [] k a = tt
 all_on_last P f (p ∷ []) k a = (k p a.0, tt)
@@ -88,7 +88,7 @@ none_or_some : {A : Type 0} (t : Bool) (x y : A) → cond t None (Some x) ≡ So
 none_or_some true x y e = let z : ◌≡◌ {A = ℕ} 0 1 = cc in absurd (omega arith)
 none_or_some false x y e = (refl, cc)
 
-numbers : (n v : ℕ) (ps : List Page) → Distinct (map (λ (p : Page). p.number) ps) → All (λ m. m ≡ n → ⊥) (map (λ (p : Page). p.number) ps) → Distinct (map (λ (p : Page). p.number) ps ++ (blank_page n v).number ∷ [])
+numbers : (n v : ℕ) (ps : List Page) → Distinct (map (λ (p : Page). p.number) ps) → AllByRecursion (λ m. m ≡ n → ⊥) (map (λ (p : Page). p.number) ps) → Distinct (map (λ (p : Page). p.number) ps ++ (blank_page n v).number ∷ [])
 unfolding blank_page
 numbers n v ps d a = distinct_push (map (λ (p : Page). p.number) ps) n d a
 

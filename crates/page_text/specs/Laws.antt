@@ -1,6 +1,6 @@
 -- Laws of page texts: what holds of every text that is read, and of every text that is refused. Assumes nothing: these are definitions.
 use Rattle.std.specs.Prelude.{◌≡◌, ℕ, zero, suc, ◌*◌, ◌<◌, true, cond, List, [], ◌∷◌, map, length, ◌≢◌}
-use Rattle.std.specs.List.{AllByRecursion as All}
+use Rattle.std.specs.List.{AllByRecursion}
 use Rattle.coding.specs.Parity.{is_letter}
 use Rattle.line.specs.Size.{rows, columns}
 use Rattle.page_text.specs.declared.Page.{Page}
@@ -10,19 +10,19 @@ use Rattle.page_text.specs.Written.{pages_text}
 -- no number stands twice
 abbrev pub Distinct : List ℕ → Type 0
 Distinct [] = Unit {0}
-Distinct (n ∷ ns) = All (λ m. m ≢ n) ns × Distinct ns
+Distinct (n ∷ ns) = AllByRecursion (λ m. m ≢ n) ns × Distinct ns
 
 -- a page whose number and version are bytes, with a letter at each place of its rows
 pub record Whole (p : Page) : Type 0 where
   pub number_fits : p.number < 256
   pub version_fits : p.version < 256
   pub long : length p.letters ≡ rows * columns
-  pub written : All (λ c. is_letter c ≡ true) p.letters
+  pub written : AllByRecursion (λ c. is_letter c ≡ true) p.letters
 
 -- no two pages have one number, and each is whole
 pub record Sound (ps : List Page) : Type 0 where
   pub distinct : Distinct (map (λ (p : Page). p.number) ps)
-  pub whole : All Whole ps
+  pub whole : AllByRecursion Whole ps
 
 -- the pages of every text that is read are sound
 abbrev pub PagesAreSound : Type 0

@@ -11,7 +11,7 @@ fn bytes_of_hello(rt: HostRuntime) {
     let line = hello(3, 1);
     assert_eq!(rt;
         &line[0..12],
-        &[2, 73, 21, 94, 21, 2, 200, 69, 76, 76, 79, 32]
+        [2, 73, 21, 94, 21, 2, 200, 69, 76, 76, 79, 32].as_slice()
     );
 }
 
@@ -29,7 +29,7 @@ fn a_version_begins_anew(rt: HostRuntime) {
     assert_eq!(rt; counts.lost, 1);
     assert_eq!(rt; &store[0..SLOT], &before[0..SLOT]);
     assert!(rt; took(take_line(&hello(4, 2), &mut store)));
-    assert_eq!(rt; row(&store, 18, 1), &[0; 40]);
+    assert_eq!(rt; row(&store, 18, 1), [0; 40].as_slice());
     assert_eq!(rt; start(row(&store, 18, 2)), b"HELLO".as_slice());
 }
 

@@ -1,4 +1,6 @@
 // The file in which a store is kept from one run to the next.
+#![tactic(auto)]
+
 mod contents;
 mod file;
 
