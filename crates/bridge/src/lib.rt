@@ -1,4 +1,6 @@
 // The receiver for C: its entries as functions on numbers and slices, which `include/demborugy.h` declares.
+#![tactic(auto)]
+
 mod lines;
 mod pages;
 

@@ -1,4 +1,6 @@
 // What is printed of a store: its pages, and how many lines were lost.
+#![tactic(auto)]
+
 ghost use Rattle.std.specs.Prelude.{◌≡◌, true, ◌&&◌, ◌++◌, IfOk, string_bytes, MatchResult, OnOk};
 ghost use Rattle.line.specs.Size.{rows};
 ghost use Rattle.store.specs.Layout.{well_formed, page_in};

@@ -1,5 +1,5 @@
 -- What becomes of lines of the input that are taken many at once. Assumes nothing: these are definitions.
-use Rattle.std.specs.Prelude.{◌≡◌, ℕ, cond, List, ◌++◌, length, Some, None, Option, ◌==◌}
+use Rattle.std.specs.Prelude.{ℕ, cond, List, ◌++◌, length, Some, None, Option, ◌==◌}
 use Rattle.receiver.specs.Batch.{RefusedLines, LinesRefusedAt}
 use Rattle.receiver.specs.declared.entry.Counts.{Counts}
 use Rattle.receive_pages.specs.declared.intake.Refusal.{Refusal}

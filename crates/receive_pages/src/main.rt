@@ -1,4 +1,6 @@
 // Receives pages: takes lines in hex from standard input into a store, and prints its pages at the end.
+#![tactic(auto)]
+
 mod gathering;
 mod intake;
 mod keeping;

@@ -1,5 +1,5 @@
 -- Recovery: a letter that came whole stands, unless the store was full. Assumes nothing.
-use Rattle.std.proofs.Common.{◌≡◌, ℕ, ◌<◌, true, ltb, ◌⊎◌, List, [], sym, refl, ap, ◌∙◌, subst, inl, inr, ⊎_elim}
+use Rattle.std.proofs.Common.{◌≡◌, ℕ, ◌<◌, true, ltb, ◌⊎◌, List, sym, refl, ap, ◌∙◌, subst, inl, inr, ⊎_elim}
 use Rattle.std.proofs.lemmas.Bool.{and_parts, ltb-true, cases_Bool, both_ways}
 use Rattle.line.specs.Line.{meaning}
 use Rattle.line.specs.Reading.{page_of, version_of, letters_of, readable, fragment}

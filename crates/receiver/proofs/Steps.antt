@@ -11,7 +11,7 @@ use Rattle.store.specs.Layout.{slots, mark_at, holds, well_formed}
 use Rattle.store.specs.Slots.{NoRoom, InSlot, Applied}
 use Rattle.store.proofs.Formed.{holds_parts, holds_not, other_mark, other_holds, same_slots}
 use Rattle.receiver.specs.Entry.{refusal, Answers}
-use Rattle.receiver.specs.Broadcast.{here, CopyOfSent}
+use Rattle.receiver.specs.Broadcast.{CopyOfSent}
 use Rattle.receiver.specs.Runs.{Run, end, step}
 use Rattle.receiver.specs.declared.entry.Done.{Done}
 use Rattle.receiver.specs.declared.entry.Done.TheVariants.{Took, Lost, Full, Refused}

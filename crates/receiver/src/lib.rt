@@ -1,4 +1,6 @@
 // The receiver: one line after the other into a lent store, with what that means for what was sent.
+#![tactic(auto)]
+
 mod batch;
 mod checked;
 mod entry;

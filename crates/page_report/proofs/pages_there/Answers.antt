@@ -1,4 +1,4 @@
-use Rattle.std.proofs.Common.{◌≡◌, vec_items, sym, ap, ◌∙◌}
+use Rattle.std.proofs.Common.{vec_items, sym, ap, ◌∙◌}
 use Rattle.page_report.specs.Report.{pages_there}
 use Rattle.page_report.proofs.PageReports.{there_more, there_as_before}
 use Rattle.page_report.proofs.pages_there.Goals as goal

@@ -1,4 +1,4 @@
-use Rattle.std.proofs.Common.{◌≡◌, ◌/◌, length, sym, refl, ap, ◌∙◌, subst, arith}
+use Rattle.std.proofs.Common.{◌≡◌, ◌/◌, length, refl, subst, arith}
 use Rattle.receiver.specs.Entry.{Answers}
 use Rattle.receiver.specs.Batch.{TakenFirst}
 use Rattle.receiver.proofs.Steps.{stepped, still_formed}
