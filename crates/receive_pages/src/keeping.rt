@@ -15,21 +15,25 @@ pub(crate) fn replace_file(rt: &HostRuntime, path: &str, bytes: &[u8]) -> io::Re
     replaced
 }
 
-// Writes a file to the end, and renames it. It is on the disk before it has the name, and so is the name when this ends.
+// Writes a file to the end, and renames it. It is on the disk before it has the name, and so is the name when this ends, where the system syncs folders.
 fn put_in_place(rt: &HostRuntime, bytes: &[u8], from: &str, to: &str) -> io::Result<()> {
     let mut file = create_like(rt, from, to)?;
     file.write_all(bytes)?;
     file.sync_all()?;
     fs::rename(rt, from, to)?;
-    sync_folder(rt, to)
+    // the file has taken its place: a folder that can't be synced makes it no failure
+    let _ = sync_folder(rt, to);
+    Ok(())
 }
 
-// An empty file to write to, with the permissions of another if that is there.
+// An empty file to write to, with the permissions of another if that is there and with them it can be written to.
 fn create_like(rt: &HostRuntime, path: &str, other: &str) -> io::Result<File> {
-    match fs::copy(rt, other, path) {
-        Ok(_) => {}
-        Err(e) if e.kind() == io::ErrorKind::NotFound => {}
-        Err(e) => return Err(e),
+    if fs::copy(rt, other, path).is_ok() {
+        if let Ok(file) = fs::create(rt, path) {
+            return Ok(file);
+        }
+        // the copy is closed to writing
+        fs::remove_file(rt, path)?;
     }
     fs::create(rt, path)
 }
