@@ -7,9 +7,9 @@ use channel::Random;
 use command_line::damage::{Command, Settings, read_command};
 use command_line::words::{refuse_words, status_of};
 use passing::pass_row;
+use std::env;
 use std::io::{BufRead, BufReader, Write};
 use std::process::ExitCode;
-use std::{env, io};
 
 const USAGE: &str = "usage: damage_lines [--seed N] [--lose N] [--numbers N] [--letters N]
 Reads lines in hex from standard input, and writes them as they may come over the air.
@@ -21,27 +21,18 @@ What isn't a line of 46 bytes is written as it is.";
 const WRITTEN_AT: usize = 65536;
 
 fn main(rt: HostRuntime) -> anyhow::Result<ExitCode> {
-    let words = match read_words(&rt) {
-        Ok(words) => words,
-        // a word that isn't UTF-8 is none that is known
-        Err(e) if e.kind() == io::ErrorKind::InvalidData => return Ok(refuse(&rt)),
-        Err(e) => return Err(e.into()),
-    };
+    let words = read_words(&rt)?;
     match read_command(words.as_slice()) {
         Some(Command::Help) => print_usage(&rt)?,
         Some(Command::Damage(settings)) => run(&rt, &settings)?,
-        None => return Ok(refuse(&rt)),
+        // wrong words end with the usage, and nothing more is said
+        None => return Ok(status_of(refuse_words(&rt, USAGE))),
     }
     Ok(ExitCode::SUCCESS)
 }
 
-// Wrong words end with the usage, and nothing more is said.
-fn refuse(rt: &HostRuntime) -> ExitCode {
-    status_of(refuse_words(rt, USAGE))
-}
-
 // The words of the command line behind the program's name.
-fn read_words(rt: &HostRuntime) -> io::Result<Vec<String>> {
+fn read_words(rt: &HostRuntime) -> anyhow::Result<Vec<String>> {
     let words = env::args(rt)?.skip(1).collect(rt.alloc())?;
     Ok(words)
 }
