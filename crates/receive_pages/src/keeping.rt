@@ -7,7 +7,8 @@ use std::{fs, io};
 // Replaces a file as a whole: the bytes are written beside it, and then take its place. A failure before that leaves the file as it was.
 pub(crate) fn replace_file(rt: &HostRuntime, path: &str, bytes: &[u8]) -> io::Result<()> {
     let beside = format!(in rt.alloc(); "{path}.new")?;
-    let replaced = put_in_place(rt, bytes, beside.as_str(), path);
+    let file = create_like(rt, beside.as_str(), path)?;
+    let replaced = put_in_place(rt, file, bytes, beside.as_str(), path);
     if replaced.is_err() {
         // if this fails too, the first failure says why
         let _ = fs::remove_file(rt, beside.as_str());
@@ -16,8 +17,13 @@ pub(crate) fn replace_file(rt: &HostRuntime, path: &str, bytes: &[u8]) -> io::Re
 }
 
 // Writes a file to the end, and renames it. It is on the disk before it has the name, and so is the name when this ends, where the system syncs folders.
-fn put_in_place(rt: &HostRuntime, bytes: &[u8], from: &str, to: &str) -> io::Result<()> {
-    let mut file = create_like(rt, from, to)?;
+fn put_in_place(
+    rt: &HostRuntime,
+    mut file: File,
+    bytes: &[u8],
+    from: &str,
+    to: &str,
+) -> io::Result<()> {
     file.write_all(bytes)?;
     file.sync_all()?;
     fs::rename(rt, from, to)?;

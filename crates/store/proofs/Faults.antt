@@ -4,7 +4,8 @@ use Rattle.std.proofs.lemmas.Bool.{and_left, and_right, lt-ltb, le-ltb, le-leb, 
 use Rattle.store.specs.Layout.{slots, mark_at, number_at, holds, letters_fine, alone, slot_fine, slot_count, fine_below, well_formed, FirstFault}
 use Rattle.store.specs.Directory.{ListsBelow}
 use Rattle.store.proofs.Formed.{fine_are, formed}
-use Rattle.store.proofs.Listing.{held_below, entry_tells}
+use Rattle.store.specs.Writes.{held_below}
+use Rattle.store.proofs.Listing.{entry_tells}
 
 -- not this one and none of those: none of all
 neither : (h b m : Bool) → (not (h && m) && not (b && m)) ≡ not ((h || b) && m)

@@ -4,14 +4,9 @@ use lib.ListN.{get_or-replicate}
 use Rattle.std.proofs.lemmas.Bool.{cases_eq, eq-eqb, ne_eqb, or_left, or_right, or_from, not_from_true, not_from_false}
 use Rattle.store.specs.Layout.{slots, mark_at, number_at, holds}
 use Rattle.store.specs.Directory.{EntryOf, ListsBelow, TakenBelow, Lists}
-use Rattle.store.specs.Writes.{Found, Begun}
+use Rattle.store.specs.Writes.{held_below, Found, Begun}
 use Rattle.store.specs.declared.directory.Directory.{Directory}
 use Rattle.store.proofs.Formed.{holds_from, holds_not, holds_parts, holds_same, other_mark, other_holds, same_slots}
-
--- whether one of the first i slots holds page n
-unfoldable pub held_below : List ℕ → ℕ → ℕ → Bool
-held_below s n zero = false
-held_below s n (suc i) = holds s n i || held_below s n i
 
 held_yes : (s : List ℕ) (n k i : ℕ) → k < i → holds s n k ≡ true → held_below s n i ≡ true
 unfolding held_below

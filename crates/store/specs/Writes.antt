@@ -1,5 +1,5 @@
 -- What the steps of applying a line find in the store and leave in it. Assumes nothing: these are definitions.
-use Rattle.std.specs.Prelude.{◌≡◌, ℕ, ◌+◌, ◌*◌, ◌<◌, ◌≤◌, true, ◌⊎◌, List, ◌≢◌, slice_index}
+use Rattle.std.specs.Prelude.{◌≡◌, ℕ, zero, suc, ◌+◌, ◌*◌, ◌<◌, ◌≤◌, Bool, true, false, ◌||◌, ◌⊎◌, List, ◌≢◌, slice_index, slice_index_or}
 use Rattle.coding.specs.Parity.{decode_letter}
 use Rattle.store.specs.Page.{merge, in_version, ShowsSame}
 use Rattle.store.specs.Layout.{slots, mark_at, number_at, version_at, holds, slot_page, page_in}
@@ -8,6 +8,15 @@ use Rattle.store.specs.Slots.{OnlySlot, LowestFree}
 -- where the letters of row r of slot i begin
 abbrev pub row_start : ℕ → ℕ → ℕ
 row_start i r = 1003 * i + 3 + 40 * r
+
+-- whether one of the first i slots holds page n
+unfoldable pub held_below : List ℕ → ℕ → ℕ → Bool
+held_below s n zero = false
+held_below s n (suc i) = holds s n i || held_below s n i
+
+-- a table says of each page whether one of the first i slots holds it
+abbrev pub Seen : List ℕ → List Bool → ℕ → Type 0
+Seen s table i = (n : ℕ) → n < 256 → slice_index_or table n false ≡ held_below s n i
 
 -- slot i holds page n
 pub record Found (s : List ℕ) (n i : ℕ) : Type 0 where

@@ -1,4 +1,4 @@
-// The directory of a store: in which slot each page stands. It is made while the store is checked, and kept as pages are begun, so that no line searches for its page.
+// The directory of a store: in which slot each page stands. It is made while the store is checked, and kept as pages are begun, so that no line that is taken searches for its page.
 ghost use Rattle.std.specs.Prelude.{◌≡◌, ℕ, ◌<◌, true, MatchOption, ◌≢◌, slice_index};
 ghost use Rattle.store.specs.Layout.{slots, mark_at, well_formed};
 ghost use Rattle.store.specs.Slots.{NoRoom};

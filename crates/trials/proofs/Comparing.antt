@@ -7,7 +7,8 @@ use Rattle.store.proofs.Formed.{holds_from, holds_parts}
 use Rattle.store.proofs.Pages.{shows_is, page_held, page_absent, page_there, absent_there, slot_cases, slot_version, slot_letter, none_there}
 use Rattle.trials.specs.Told.{letter_told, page_told}
 use Rattle.trials.specs.Text.{text_letter}
-use Rattle.trials.specs.Same.{held_below, Seen, Same, TrueLetters, SlotSame, Kept}
+use Rattle.store.specs.Writes.{held_below, Seen}
+use Rattle.trials.specs.Same.{Same, TrueLetters, SlotSame, Kept}
 use Rattle.trials.specs.declared.reference.Answer.{Answer}
 use Rattle.trials.specs.declared.reference.Reference.{Reference}
 use Rattle.trials.proofs.Telling.{sent_there}

@@ -1,5 +1,5 @@
 -- When a store, or a row that is shown, is as the reference has it. Assumes nothing: these are definitions.
-use Rattle.std.specs.Prelude.{◌≡◌, ℕ, zero, suc, ◌+◌, ◌*◌, ◌<◌, Bool, true, false, ◌||◌, ◌⊎◌, List, length, get_or, vec_items, slice_index, slice_index_or}
+use Rattle.std.specs.Prelude.{◌≡◌, ℕ, ◌+◌, ◌*◌, ◌<◌, true, false, ◌⊎◌, List, length, get_or, vec_items, slice_index}
 use Rattle.store.specs.Page.{ShowsSame}
 use Rattle.store.specs.Layout.{slots, number_at, version_at, holds, well_formed, page_in}
 use Rattle.trials.specs.Text.{text_letter}
@@ -8,15 +8,6 @@ use Rattle.trials.specs.declared.reference.Answer.{Answer}
 use Rattle.trials.specs.declared.reference.Answer.TheVariants.{Took, Lost, Full}
 use Rattle.trials.specs.declared.reference.Reference.{Reference}
 use Rattle.trials.specs.declared.sent.Sent.{Sent}
-
--- whether one of the first i slots holds page n
-unfoldable pub held_below : List ℕ → ℕ → ℕ → Bool
-held_below s n zero = false
-held_below s n (suc i) = holds s n i || held_below s n i
-
--- a table says of each page whether one of the first i slots holds it
-abbrev pub Seen : List ℕ → List Bool → ℕ → Type 0
-Seen s table i = (n : ℕ) → n < 256 → slice_index_or table n false ≡ held_below s n i
 
 -- a store is well-formed, and shows every page as the reference has it
 pub record Same (s : List ℕ) (ref : Reference) : Type 0 where

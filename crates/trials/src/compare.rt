@@ -1,7 +1,8 @@
 // The store beside the reference, byte by byte: that it is well-formed, that each page in it is as the reference has it, and that none is missing.
 ghost use Rattle.std.specs.Prelude.{◌≡◌, ℕ, ◌+◌, ◌*◌, ◌<◌, ◌≤◌, true, false, length, Decides, slice_index, slice_index_or};
 ghost use Rattle.store.specs.Layout.{slots, mark_at};
-ghost use Rattle.trials.specs.Same.{Seen, Same, TrueLetters, SlotSame, OthersSame, Kept};
+ghost use Rattle.store.specs.Writes.{Seen};
+ghost use Rattle.trials.specs.Same.{Same, TrueLetters, SlotSame, OthersSame, Kept};
 
 use crate::reference::{Answer, PAGE_LETTERS, PAGES, Reference};
 use store::{SLOT_SIZE, find_fault};

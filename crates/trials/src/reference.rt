@@ -1,5 +1,5 @@
 // The reference: a receiver that is told which line was sent and which bits were turned on the way, and never decodes a byte.
-ghost use Rattle.std.specs.Prelude.{◌≡◌, ◌+◌, ◌*◌, ◌<◌, false, length, vec_len, Decides, slice_index, slice_index_or};
+ghost use Rattle.std.specs.Prelude.{◌≡◌, ◌+◌, ◌*◌, ◌<◌, ◌≤◌, false, length, vec_len, Decides, slice_index, slice_index_or};
 ghost use Rattle.store.specs.Writes.{Cleared};
 ghost use Rattle.trials.specs.Told.{version_told, letter_told, letter_after, OnlySent, TwoTurned, RowPut};
 ghost use Rattle.trials.specs.Answers.{Due, lost_after, full_after};
@@ -119,11 +119,16 @@ fn clear_page(letters: &mut [u8], page: u8)
     }
 }
 
-// The letters of a row whose bytes came undamaged.
+// The letters of a row whose bytes came undamaged; a row that no page has is passed over.
 fn put_row(letters: &mut [u8], sent: Sent, bits: &[u8; 46])
     requires { length letters.old ≡ 256000 }
-    ensures { RowPut sent.page sent.version sent.row bits.now letters.old letters.new 40 }
+    ensures put { sent.row < 25 → RowPut sent.page sent.version sent.row bits.now letters.old letters.new 40 }
+    ensures passed { 25 ≤ sent.row → letters.new ≡ letters.old }
 {
+    let no_such_row = sent.row as usize >= ROWS;
+    if no_such_row {
+        return;
+    }
     for column in 0..COLUMNS {
         let at = place(sent, column);
         letters[at] = letter_after(sent, column, bits[Line::NUMBERS + column], letters[at]);

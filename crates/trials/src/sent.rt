@@ -19,7 +19,6 @@ pub struct Sent {
     pub page: u8,
     pub version: u8,
     pub row: u8,
-    ghost low: { row < 25 },
 }
 
 impl Sent {

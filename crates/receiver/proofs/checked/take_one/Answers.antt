@@ -1,5 +1,6 @@
 use Rattle.std.proofs.Common.{sym, refl, subst}
 use Rattle.store.specs.Slots.{NoRoom}
+use Rattle.receiver.specs.Entry.{FullLine}
 use Rattle.receiver.proofs.Steps.{not_refused}
 use Rattle.receiver.proofs.checked.take_one.Goals as goal
 
@@ -24,10 +25,8 @@ pub returns-in-None : goal.returns-in-None
 returns-in-None c =
     let h = c.in-Some.ensures.header in
     let w = c.in-None.ensures in
+    let full : FullLine c.args.line.now c.args.store.now c.apply_listed.new.store = record { readable = h.readable; no_room = subst (NoRoom c.args.store.now) h.page w.applied.0; same = w.applied.1 } in
     record {
-      answer = record {
-        number = sym (not_refused c.args.line.now c.args.store.now c.requires.long c.requires.formed);
-        says = record { readable = h.readable; no_room = subst (NoRoom c.args.store.now) h.page w.applied.0; same = w.applied.1 };
-      };
+      answer = record { number = sym (not_refused c.args.line.now c.args.store.now c.requires.long c.requires.formed); says = full };
       lists = w.lists;
     }

@@ -1,5 +1,5 @@
 use Rattle.std.proofs.Common.{◌≡◌, length}
-use Rattle.trials.specs.Same.{Seen}
+use Rattle.store.specs.Writes.{Seen}
 use Rattle.trials.proofs.compare.held_pages.Given as goal
 
 abbrev pub invariant-loop-slot : goal.invariant-loop-slot

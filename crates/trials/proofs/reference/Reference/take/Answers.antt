@@ -1,4 +1,5 @@
-use Rattle.std.proofs.Common.{◌≡◌, length, sym, ◌∙◌, subst}
+use Rattle.std.proofs.Common.{◌≡◌, length, sym, ◌∙◌, ⊎_elim, subst}
+use Rattle.std.proofs.lemmas.Bool.{cases_lt}
 use Rattle.trials.specs.Told.{OnlySent}
 use Rattle.trials.proofs.Telling.{refilled, sent_row}
 use Rattle.trials.proofs.reference.Reference.take.Goals as goal
@@ -13,5 +14,6 @@ invariant_of-self-2 c =
       long = begun.long;
       sent =
           subst (OnlySent begun.versions) (sym (refilled letters begun.letters.items begun.letters.len long))
-          (sent_row begun.versions c.args.bits.now c.as_mut_slice.result.now letters c.args.sent.page c.args.sent.version c.args.sent.row c.args.sent.low c.begin.ensures.version before c.put_row.ensures);
+          (⊎_elim (λ low. sent_row begun.versions c.args.bits.now c.as_mut_slice.result.now letters c.args.sent.page c.args.sent.version c.args.sent.row low c.begin.ensures.version before (c.put_row.ensures.put low))
+          (λ high. subst (OnlySent begun.versions) (sym (c.put_row.ensures.passed high)) before) (cases_lt c.args.sent.row 25));
     }
