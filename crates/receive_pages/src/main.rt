@@ -179,25 +179,32 @@ fn take_gathered(rt: &HostRuntime, store: &mut [u8], counts: &mut Counts) -> any
     for number in 0..u64::MAX {
         line.clear();
         if input.read_until(b'\n', &mut line)? == 0 {
-            break;
+            return flush(rt, number, &mut waiting, store, counts);
         }
         let text = trim_newline(line.as_slice());
         if let Some(refusal) = gather(text, number, &mut bytes, &mut waiting)? {
             say_refused(rt, number, refusal)?;
         }
         if waiting.len() >= MOST_WAITING {
-            flush(&mut waiting, store, counts)?;
+            flush(rt, number, &mut waiting, store, counts)?;
         }
     }
-    flush(&mut waiting, store, counts)
+    flush(rt, u64::MAX, &mut waiting, store, counts)
 }
 
-// Takes the lines that wait. They are whole lines, and the store was checked, so none is turned away here.
-fn flush(waiting: &mut Vec<u8>, store: &mut [u8], counts: &mut Counts) -> anyhow::Result<()> {
-    match take_waiting(waiting, store, counts) {
-        Some(_) => Err(anyhow!("the lines that waited were turned away")),
-        None => Ok(()),
+// Takes the lines that wait, up to the one with this number. They are whole lines, and the store was checked, so none is turned away here; if they were, it
+// would be said as of any line.
+fn flush(
+    rt: &HostRuntime,
+    number: u64,
+    waiting: &mut Vec<u8>,
+    store: &mut [u8],
+    counts: &mut Counts,
+) -> anyhow::Result<()> {
+    if let Some(refusal) = take_waiting(waiting, store, counts) {
+        say_refused(rt, number, refusal)?;
     }
+    Ok(())
 }
 
 // Says that a line of the input is turned away.
