@@ -7,7 +7,7 @@ use std::{fs, io};
 // Replaces a file as a whole: the bytes are written beside it, and then take its place. A failure before that leaves the file as it was.
 pub(crate) fn replace_file(rt: &HostRuntime, path: &str, bytes: &[u8]) -> io::Result<()> {
     let beside = format!(in rt.alloc(); "{path}.new")?;
-    let file = create_like(rt, beside.as_str(), path)?;
+    let file = fs::create(rt, beside.as_str())?;
     let replaced = put_in_place(rt, file, bytes, beside.as_str(), path);
     if replaced.is_err() {
         // if this fails too, the first failure says why
@@ -25,6 +25,8 @@ fn put_in_place(
     to: &str,
 ) -> io::Result<()> {
     file.write_all(bytes)?;
+    // where the old file's permissions can't be had, the new one keeps its own
+    let _ = take_permissions(rt, &file, to);
     file.sync_all()?;
     fs::rename(rt, from, to)?;
     // the file has taken its place: a folder that can't be synced makes it no failure
@@ -32,16 +34,13 @@ fn put_in_place(
     Ok(())
 }
 
-// An empty file to write to, with the permissions of another if that is there and with them it can be written to.
-fn create_like(rt: &HostRuntime, path: &str, other: &str) -> io::Result<File> {
-    if fs::copy(rt, other, path).is_ok() {
-        if let Ok(file) = fs::create(rt, path) {
-            return Ok(file);
-        }
-        // the copy is closed to writing
-        fs::remove_file(rt, path)?;
+// Gives a file the permissions of another, if that is a file.
+fn take_permissions(rt: &HostRuntime, file: &File, other: &str) -> io::Result<()> {
+    let like = fs::metadata(rt, other)?;
+    if like.is_file() {
+        file.set_permissions(like.permissions())?;
     }
-    fs::create(rt, path)
+    Ok(())
 }
 
 // Has the folder of a file written to the disk, and so the names in it.

@@ -1,7 +1,7 @@
 -- Lemmas on the end of a line. Assumes nothing.
 use Rattle.std.proofs.Common.{◌≡◌, ℕ, ◌-◌, ◌<◌, ◌≤◌, eqb, List, [], ◌∷◌, length, get_or, take, sym, refl, arith, length-take}
 use Rattle.std.proofs.lemmas.Bool.{eq-eqb, ne_eqb, cond-true, cond-false, cond_both}
-use Rattle.text.specs.Lines.{without_end, without_return}
+use Rattle.text.specs.Lines.{without_end, without_return, without_newline}
 
 -- a line that ends with the byte, and one that doesn't
 pub trimmed : (b : ℕ) (l : List ℕ) → get_or l (length l - 1) 0 ≡ b → take (length l - 1) l ≡ without_end b l
@@ -25,10 +25,14 @@ trimmed_short b l =
     let whole : length l ≤ length l = omega arith in
     cond_both (eqb (get_or l (length l - 1) 0) b) (take (length l - 1) l) l (λ x. length x ≤ length l) (λ _. cut) (λ _. whole)
 
--- the carriage return is such a byte
+-- the carriage return is such a byte, and so is the newline
 pub return_end : (l : List ℕ) → without_end 13 l ≡ without_return l
 unfolding without_return without_end
 return_end l = refl
+
+pub newline_end : (l : List ℕ) → without_end 10 l ≡ without_newline l
+unfolding without_newline without_end
+newline_end l = refl
 
 pub return_short : (l : List ℕ) → length (without_return l) ≤ length l
 unfolding without_return without_end

@@ -10,5 +10,5 @@ unfoldable pub without_return : List ℕ → List ℕ
 without_return l = cond (slice_index l (length l - 1) == 13) (take (length l - 1) l) l
 
 -- a line without the newline that it may end with
-abbrev pub without_newline : List ℕ → List ℕ
-without_newline l = without_end 10 l
+unfoldable pub without_newline : List ℕ → List ℕ
+without_newline l = cond (slice_index l (length l - 1) == 10) (take (length l - 1) l) l
