@@ -1,11 +1,11 @@
 -- The laws of letters with odd parity, each by one computed test over all bytes. Assumes nothing.
-use Rattle.std.proofs.Common.{◌≡◌, ℕ, ◌+◌, ◌/◌, ◌%◌, ◌<◌, ◌≤◌, Bool, true, false, not, ◌&&◌, ◌||◌, eqb, ltb, leb, Option, Some, None, MatchOption, sym, refl, ap, ◌∙◌, arith}
-use lib.Bits.{bit_xor, bit_and}
+use Rattle.std.proofs.Common.{◌≡◌, ℕ, ◌+◌, ◌%◌, ◌<◌, ◌≤◌, Bool, true, false, not, ◌&&◌, ◌||◌, eqb, ltb, leb, sym, refl, arith}
+use lib.Bits.{bit_xor}
 use lib.Count.{ones_in}
 use Rattle.std.proofs.lemmas.Bool.{and_parts, and_from, le-leb, leb-true, lt-ltb, ltb-true, eq-eqb, eqb-true, eqb-false, not-true, cond-true, cond-false, cond_both}
 use Rattle.coding.specs.Hamming.{distance}
 use Rattle.coding.specs.Parity.{is_letter, odd_parity, encode_letter, decode_letter}
-use Rattle.coding.specs.Laws.{ReadsWhole, DetectsOne, LetterLimitSharp}
+use Rattle.coding.specs.Laws.{LetterLimitSharp}
 use Rattle.coding.proofs.Below.{all_below, below_at, below_both, ◌implies◌, implied}
 
 pub letter_range : (c : ℕ) → is_letter c ≡ true → (32 ≤ c) × (c < 128)
@@ -40,18 +40,6 @@ reads_whole b hb c hc = (letters b c hb hc).whole
 pub detects_one : (b : ℕ) → b < 256 → (c : ℕ) → is_letter c ≡ true → distance (encode_letter c) b ≡ 1 → decode_letter b ≡ 0
 detects_one b hb c hc = (letters b c hb hc).one
 
--- r is the letter that byte b is read as, or there is none
-abbrev pub IsRead : (b : ℕ) (r : Option ℕ) → Type 0
-IsRead b r = MatchOption r (decode_letter b ≡ 0) (λ c. (is_letter c ≡ true) × (c ≡ decode_letter b))
-
-pub read_whole : (b : ℕ) (r : Option ℕ) → b < 256 → IsRead b r → ReadsWhole b r
-read_whole b None hb w c hc whole = absurd (omega (arith, w, reads_whole b hb c hc whole, (letter_range c hc).0))
-read_whole b (Some x) hb w c hc whole = ap Some (w.1 ∙ reads_whole b hb c hc whole)
-
-pub read_detects : (b : ℕ) (r : Option ℕ) → b < 256 → IsRead b r → DetectsOne b r
-read_detects b None hb w c hc one = refl
-read_detects b (Some x) hb w c hc one = absurd (omega (arith, w.1, detects_one b hb c hc one, (letter_range x w.0).0))
-
 -- the two tests of a byte, and what it is read as
 pub odd_letter : (b : ℕ) → odd_parity b ≡ true → is_letter (b % 128) ≡ true → b % 128 ≡ decode_letter b
 unfolding decode_letter
@@ -60,6 +48,9 @@ odd_letter b odd letter = sym (cond-true _ _ _ (and_from _ _ odd letter))
 pub no_letter : (b : ℕ) → (odd_parity b && is_letter (b % 128)) ≡ false → decode_letter b ≡ 0
 unfolding decode_letter
 no_letter b failed = cond-false _ _ _ failed
+
+-- what the answer of `decode_letter` rests on
+pub ruleset letter_laws = (odd_letter, no_letter, reads_whole, detects_one, letter_range)
 
 -- the byte of letter c with its two lowest bits turned
 turned : ℕ → ℕ

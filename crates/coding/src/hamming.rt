@@ -6,6 +6,7 @@ ghost use Rattle.coding.specs.Laws.{CorrectsOne, DetectsTwo};
 use crate::tables::{CODE_WORDS, NUMBER_COUNT, NUMBERS};
 
 // How many bits of two bytes differ.
+#[tactic(auto, using(crate::proofs::Numbers::ones_distance))]
 pub fn hamming_distance(a: u8, b: u8) -> u32
     ensures { result ≡ distance a b }
 {
@@ -13,6 +14,7 @@ pub fn hamming_distance(a: u8, b: u8) -> u32
 }
 
 // The code word of a number, of which the lower four bits count.
+#[tactic(auto, unfolding(crate::specs::Hamming::encode_number, crate::specs::Hamming::code_words))]
 pub fn encode_number(number: u8) -> u8
     ensures { result ≡ encode_number number }
 {

@@ -13,6 +13,7 @@ pub const SEVEN_BITS: u8 = 128;
 pub const NO_LETTER: u8 = 0;
 
 // Whether an odd number of a byte's bits are set.
+#[tactic(auto, using(crate::proofs::Numbers::ones_byte), unfolding(crate::specs::Parity::odd_parity))]
 fn is_odd(byte: u8) -> bool
     ensures { result ≡ odd_parity byte }
 {
@@ -20,6 +21,7 @@ fn is_odd(byte: u8) -> bool
 }
 
 // Whether a number is a letter.
+#[tactic(auto, unfolding(crate::specs::Parity::is_letter))]
 pub fn is_letter(number: u8) -> bool
     ensures { result ≡ is_letter number }
 {
@@ -27,6 +29,7 @@ pub fn is_letter(number: u8) -> bool
 }
 
 // The byte that a letter is sent as; the lower seven bits of `letter` count.
+#[tactic(auto, unfolding(crate::specs::Parity::encode_letter))]
 pub fn encode_letter(letter: u8) -> u8
     ensures { result ≡ encode_letter letter }
 {
@@ -39,6 +42,7 @@ pub fn encode_letter(letter: u8) -> u8
 }
 
 // The letter that a byte is read as, if it is one.
+#[tactic(auto, using(crate::proofs::Letters::letter_laws))]
 pub fn decode_letter(byte: u8) -> Option<u8>
     ensures value { MatchOption result (decode_letter byte ≡ 0) (λ c. (is_letter c ≡ true) × (c ≡ decode_letter byte)) }
     ensures whole { ReadsWhole byte result }

@@ -1,7 +1,6 @@
 -- Where a byte is no number or there is no such row, the line can't be made out; the laws hold of any bytes.
 use Rattle.std.proofs.Common.{◌≡◌, ℕ, ◌<◌, false, List, Option, None, MatchOption, sym, subst, arith}
 use Rattle.line.specs.Reading.{number_of, pair_of, readable, HeaderOf}
-use Rattle.line.specs.Laws.{ReadsPart, ReadsBrought}
 use Rattle.line.specs.declared.Header.{Header}
 use Rattle.line.proofs.Encoding.{six}
 use Rattle.line.proofs.Readability.{readable_from, unreadable, unreadable_pair}

@@ -1,7 +1,7 @@
 use Rattle.std.proofs.Common.{◌≡◌, map, length, sym, ◌∙◌, subst, refl, rules}
 use Rattle.coding.specs.Hamming.{encode_number}
 use Rattle.coding.specs.Parity.{encode_letter}
-use Rattle.line.specs.Line.{header_numbers, encode_line}
+use Rattle.line.specs.Line.{header_numbers}
 use Rattle.line.specs.Laws.{Undamaged}
 use Rattle.line.proofs.Encoding.{mapped, written}
 use Rattle.line.proofs.Copies.{undamaged}
