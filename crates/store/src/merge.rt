@@ -2,15 +2,14 @@
 ghost use Rattle.std.specs.Prelude.{◌≡◌, ◌+◌, ◌≤◌, true, length, MatchOption};
 ghost use Rattle.line.specs.Reading.{fragment, HeaderOf};
 ghost use Rattle.store.specs.Layout.{well_formed};
-ghost use Rattle.store.specs.Directory.{Lists};
 ghost use Rattle.store.specs.Slots.{NoRoom, Applied};
 ghost use Rattle.store.specs.Writes.{Merged, MergedFrom};
 
-use crate::directory::Directory;
+use crate::index::SlotIndex;
 use crate::lanes::merged;
-use crate::layout::{LETTERS_AT, SLOT_SIZE};
+use crate::layout::row_start;
 use crate::slots::claim_slot;
-use line::{COLUMNS, Header, Line};
+use line::{Header, Line};
 use std::simd::prelude::*;
 
 // N letters of a line, from byte `from` of it on, over what stands in the store from `at` on.
@@ -69,39 +68,21 @@ fn merge_line(store: &mut [u8], start: usize, line: &[u8])
     row.put_line(line);
 }
 
-// Applies a line that was made out to a store that was checked: its page's slot, or none if there is no room.
-pub fn apply_line(store: &mut [u8], header: Header, line: &[u8]) -> Option<usize>
-    requires formed { well_formed store.old ≡ true }
-    requires header { HeaderOf line.now header }
-    ensures { MatchOption result (NoRoom store.old header.page × (store.new ≡ store.old)) (λ _. Applied (fragment line.now) store.old store.new) }
-{
-    let slot = claim_slot(store, header.page, header.version)?;
-    merge_line(
-        store,
-        SLOT_SIZE * slot + LETTERS_AT + COLUMNS * header.row as usize,
-        line,
-    );
-    Some(slot)
-}
-
-// The same in a store whose pages are listed, without a search; they are listed then too.
-pub fn apply_listed(
+// Applies a line that was made out to a store that was checked, by an index that agrees with it, and still does then: its page's slot, or none if there is no room.
+pub fn apply_line<I: SlotIndex>(
     store: &mut [u8],
-    directory: &mut Directory,
+    index: &mut I,
     header: Header,
     line: &[u8],
 ) -> Option<usize>
     requires formed { well_formed store.old ≡ true }
-    requires lists { Lists store.old directory.old }
+    requires agrees { I.agrees store.old index.old }
     requires header { HeaderOf line.now header }
     ensures applied { MatchOption result (NoRoom store.old header.page × (store.new ≡ store.old)) (λ _. Applied (fragment line.now) store.old store.new) }
-    ensures lists { Lists store.new directory.new }
+    ensures agrees { I.agrees store.new index.new }
 {
-    let slot = directory.claim_slot(store, header.page, header.version)?;
-    merge_line(
-        store,
-        SLOT_SIZE * slot + LETTERS_AT + COLUMNS * header.row as usize,
-        line,
-    );
+    let slot = claim_slot(store, index, header.page, header.version)?;
+    let start = row_start(slot, usize::from(header.row));
+    merge_line(store, start, line);
     Some(slot)
 }
