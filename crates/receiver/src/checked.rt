@@ -7,7 +7,7 @@ ghost use Rattle.receiver.specs.Batch.{TakenFirst};
 
 use crate::entry::{Counts, Done};
 use line::{Line, read_header};
-use store::{Directory, apply_listed};
+use store::{Directory, apply_line};
 
 // Takes a line of 46 bytes.
 fn take_one(line: &[u8], store: &mut [u8], directory: &mut Directory) -> Done
@@ -20,7 +20,7 @@ fn take_one(line: &[u8], store: &mut [u8], directory: &mut Directory) -> Done
     let Some(header) = read_header(line) else {
         return Done::Lost;
     };
-    match apply_listed(store, directory, header, line) {
+    match apply_line(store, directory, header, line) {
         Some(_) => Done::Took,
         None => Done::Full,
     }
