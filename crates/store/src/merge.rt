@@ -18,9 +18,9 @@ fn merge<const N: usize>(store: &mut [u8], at: usize, line: &[u8], from: usize)
     requires line { from + N ≤ length line.now }
     ensures { MergedFrom store.old line.now store.new at from N }
 {
-    let came = Simd::from_slice(&line[from..from + N]);
-    let old = Simd::from_slice(&store[at..at + N]);
-    merged::<N>(came, old).copy_to_slice(&mut store[at..at + N]);
+    let came = Simd::<u8, N>::from_slice(&line[from..from + N]);
+    let old = Simd::<u8, N>::from_slice(&store[at..at + N]);
+    merged(came, old).copy_to_slice(&mut store[at..at + N]);
 }
 
 // The letters of one row of the store, borrowed while a line is merged into them.
