@@ -58,16 +58,6 @@ impl RowLetters<'_> {
     }
 }
 
-// The letters of a line over the forty bytes from `start` on.
-fn merge_line(store: &mut [u8], start: usize, line: &[u8])
-    requires row { start + 40 ≤ length store.old }
-    requires line { length line.now ≡ 46 }
-    ensures { Merged store.old line.now store.new start 40 }
-{
-    let mut row = RowLetters { store, start };
-    row.put_line(line);
-}
-
 // Applies a line that was made out to a store that was checked, by an index that agrees with it, and still does then: its page's slot, or none if there is no room.
 pub fn apply_line<I: SlotIndex>(
     store: &mut [u8],
@@ -83,6 +73,7 @@ pub fn apply_line<I: SlotIndex>(
 {
     let slot = claim_slot(store, index, header.page, header.version)?;
     let start = row_start(slot, usize::from(header.row));
-    merge_line(store, start, line);
+    let mut letters = RowLetters { store, start };
+    letters.put_line(line);
     Some(slot)
 }
