@@ -12,17 +12,6 @@ use crate::slots::claim_slot;
 use line::{Header, Line};
 use std::simd::prelude::*;
 
-// N letters of a line, from byte `from` of it on, over what stands in the store from `at` on.
-fn merge<const N: usize>(store: &mut [u8], at: usize, line: &[u8], from: usize)
-    requires store { at + N ≤ length store.old }
-    requires line { from + N ≤ length line.now }
-    ensures { MergedFrom store.old line.now store.new at from N }
-{
-    let came = Simd::<u8, N>::from_slice(&line[from..from + N]);
-    let old = Simd::<u8, N>::from_slice(&store[at..at + N]);
-    merged(came, old).copy_to_slice(&mut store[at..at + N]);
-}
-
 // The letters of one row of the store, borrowed while a line is merged into them.
 #[derive(Drop)]
 struct RowLetters<'a> {
@@ -40,8 +29,12 @@ impl RowLetters<'_> {
         ensures start { self.new.start ≡ self.old.start }
         ensures named { self.new.store.ghost_name ≡ self.old.store.ghost_name }
     {
+        let from = Line::NUMBERS + column;
+        let came = Simd::<u8, N>::from_slice(&line[from..from + N]);
         let at = self.start + column;
-        merge::<N>(self.store, at, line, Line::NUMBERS + column);
+        let store = &mut *self.store;
+        let old = Simd::<u8, N>::from_slice(&store[at..at + N]);
+        merged(came, old).copy_to_slice(&mut store[at..at + N]);
     }
 
     // The forty letters of a line.
