@@ -10,6 +10,7 @@ use line::{Line, read_header};
 use store::{Directory, apply_line};
 
 // Takes a line of 46 bytes.
+#[tactic(auto, using(crate::proofs::Steps::not_refused))]
 fn take_one(line: &[u8], store: &mut [u8], directory: &mut Directory) -> Done
     requires long { length line.now ≡ 46 }
     requires formed { well_formed store.old ≡ true }
