@@ -24,6 +24,7 @@ impl Page {
         }
     }
 
+    // Writes a row's letters in their place.
     #[tactic(auto, using(crate::proofs::DraftPages::with_row_is))]
     fn set_row(&mut self, row: Row<'_>)
         ensures number { self.new.number ≡ self.old.number }
