@@ -24,6 +24,8 @@ impl Page {
         }
     }
 
+    // Writes a row's letters in their place.
+    #[tactic(auto, using(crate::proofs::DraftPages::with_row_is))]
     fn set_row(&mut self, row: Row<'_>)
         ensures number { self.new.number ≡ self.old.number }
         ensures version { self.new.version ≡ self.old.version }
@@ -59,6 +61,7 @@ impl Draft {
         }
     }
 
+    #[tactic(auto, unfolding(crate::specs::Reading::read_on, crate::specs::Reading::no_rows))]
     fn begin_page(&mut self, heading: Heading, place: usize) -> Result<(), TextError>
         ensures { Taken (read_on (Said.heading heading.page heading.version) (reading self.old)) self.old self.new place result }
     {
@@ -70,6 +73,7 @@ impl Draft {
         Ok(())
     }
 
+    #[tactic(auto, unfolding(crate::specs::Reading::read_on))]
     fn put_row(&mut self, row: Row<'_>, place: usize) -> Result<(), TextError>
         ensures { Taken (read_on (Said.row row.entry.number row.entry.letters.now) (reading self.old)) self.old self.new place result }
     {
@@ -83,6 +87,7 @@ impl Draft {
         Ok(())
     }
 
+    #[tactic(auto, unfolding(crate::specs::Reading::read_on))]
     fn take_line(&mut self, line: &[u8], place: usize) -> Result<(), TextError>
         ensures { Taken (read_on (what_says line.now) (reading self.old)) self.old self.new place result }
     {
