@@ -21,8 +21,12 @@ pub fn trim_newline(line: &[u8]) -> &[u8]
 }
 
 // A line without a byte that it may end with.
+#[tactic(auto, using(std::proofs::lemmas::Bool::Decides::nat_tests), unfolding(crate::specs::Lines::without_end))]
 fn trim_end(line: &[u8], end: u8) -> &[u8]
     ensures { result.now ≡ without_end end line.now }
 {
-    line.strip_suffix(&[end]).unwrap_or(line)
+    match line {
+        [front @ .., last] if *last == end => front,
+        _ => line,
+    }
 }
