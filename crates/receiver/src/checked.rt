@@ -5,11 +5,12 @@ ghost use Rattle.store.specs.Directory.{Lists};
 ghost use Rattle.receiver.specs.Entry.{Answers};
 ghost use Rattle.receiver.specs.Batch.{TakenFirst};
 
-use crate::entry::{Counts, Done, count};
+use crate::entry::{Counts, Done};
 use line::{Line, read_header};
-use store::{Directory, apply_listed};
+use store::{Directory, apply_line};
 
 // Takes a line of 46 bytes.
+#[tactic(auto, using(crate::proofs::Steps::not_refused))]
 fn take_one(line: &[u8], store: &mut [u8], directory: &mut Directory) -> Done
     requires long { length line.now ≡ 46 }
     requires formed { well_formed store.old ≡ true }
@@ -20,7 +21,7 @@ fn take_one(line: &[u8], store: &mut [u8], directory: &mut Directory) -> Done
     let Some(header) = read_header(line) else {
         return Done::Lost;
     };
-    match apply_listed(store, directory, header, line) {
+    match apply_line(store, directory, header, line) {
         Some(_) => Done::Took,
         None => Done::Full,
     }
@@ -43,10 +44,9 @@ pub(crate) fn take_each(
     let mut done = Done::Took;
     // counted here and written once, so that no line waits for the lent counts
     let mut total = *counts;
-    for k in 0..lines.len() / Line::LENGTH {
-        let at = Line::LENGTH * k;
-        done = take_one(&lines[at..at + Line::LENGTH], store, directory);
-        total = count(total, done);
+    for line in lines.chunks_exact(Line::LENGTH) {
+        done = take_one(line, store, directory);
+        total.count(done);
     }
     *counts = total;
     done
