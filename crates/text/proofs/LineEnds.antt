@@ -1,15 +1,15 @@
 -- Lemmas on the end of a line. Assumes nothing.
 use Rattle.std.proofs.Common.{◌≡◌, ℕ, ◌-◌, ◌≤◌, eqb, List, length, get_or, take, sym, arith, length-take}
 use Rattle.std.proofs.lemmas.Bool.{ne_eqb, cond-false, cond_both}
-use Rattle.text.specs.Lines.{without_end, without_return}
+use Rattle.text.specs.Lines.{without_return}
 
 pub return_short : (l : List ℕ) → length (without_return l) ≤ length l
-unfolding without_end
+unfolding without_return
 return_short l =
     let cut : length (take (length l - 1) l) ≤ length l = simp length-take (omega arith) in
     let whole : length l ≤ length l = omega arith in
     cond_both (eqb (get_or l (length l - 1) 0) 13) (take (length l - 1) l) l (λ x. length x ≤ length l) (λ _. cut) (λ _. whole)
 
 pub no_return_stays : (l : List ℕ) → (get_or l (length l - 1) 0 ≡ 13 → ⊥) → l ≡ without_return l
-unfolding without_end
+unfolding without_return
 no_return_stays l ne = sym (cond-false _ _ _ (ne_eqb _ _ ne))
