@@ -2,7 +2,9 @@
 #![tactic(auto)]
 
 mod broadcast;
+mod came;
 mod compare;
+mod draw;
 mod recovery;
 mod reference;
 mod sent;
