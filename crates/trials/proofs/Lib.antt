@@ -1,4 +1,3 @@
 pub mod Comparing
-pub mod Rows
 pub mod Slots
 pub mod Telling

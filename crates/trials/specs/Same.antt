@@ -1,7 +1,7 @@
 -- When a store, or a row that is shown, is as the reference has it. Assumes nothing: these are definitions.
-use Rattle.std.specs.Prelude.{◌≡◌, ℕ, ◌+◌, ◌*◌, ◌<◌, true, false, ◌⊎◌, List, length, take, drop, Some, vec_items, slice_index}
+use Rattle.std.specs.Prelude.{◌≡◌, ℕ, ◌+◌, ◌<◌, true, false, ◌⊎◌, List, length, Some, vec_items, slice_index}
 use Rattle.store.specs.Page.{ShowsSame}
-use Rattle.store.specs.Layout.{slots, holds, well_formed, page_in}
+use Rattle.store.specs.Layout.{slots, slot_bytes, holds, well_formed, page_in}
 use Rattle.trials.specs.Text.{text_letter}
 use Rattle.trials.specs.Told.{told, letter_told, page_told}
 use Rattle.receiver.specs.declared.entry.Done.{Done}
@@ -18,10 +18,6 @@ pub record Same (s : List ℕ) (ref : Reference) : Type 0 where
 -- each letter that is known of a page in the store is the one that was sent there in the version that the page names
 abbrev pub TrueLetters : List ℕ → Type 0
 TrueLetters s = (n r c : ℕ) → n < 256 → r < 25 → c < 40 → 0 < (page_in s n).letters r c → (page_in s n).letters r c ≡ text_letter n (page_in s n).version r c
-
--- the bytes of slot i
-abbrev pub slot_bytes : List ℕ → ℕ → List ℕ
-slot_bytes s i = take 1003 (drop (1003 * i) s)
 
 -- the page of a slot with these bytes is there in the reference, in this version and with these letters
 pub record SlotSame (slot : List ℕ) (ref : Reference) : Type 0 where

@@ -1,15 +1,16 @@
 // The store beside the reference, byte by byte: that it is well-formed, that each page in it is as the reference has it, and that none is missing.
 ghost use Rattle.std.specs.Prelude.{◌≡◌, ℕ, ◌<◌, true, length, IsSome, Decides, slice_index};
-ghost use Rattle.store.specs.Layout.{slots, mark_at};
+ghost use Rattle.store.specs.Layout.{slots, slot_bytes, mark_at};
 ghost use Rattle.store.specs.Writes.{Found};
 ghost use Rattle.trials.specs.Told.{told};
-ghost use Rattle.trials.specs.Same.{Same, TrueLetters, slot_bytes, SlotSame, OthersSame, Kept};
+ghost use Rattle.trials.specs.Same.{Same, TrueLetters, SlotSame, OthersSame, Kept};
 
 use crate::reference::Reference;
 use receiver::Done;
 use store::{SLOT_SIZE, find_fault};
 
-// The mark of a slot that holds a page. It is told here again, since the trials look at the store's bytes by themselves.
+// The mark of a slot that holds a page. It stands here again, for the trials look at the bytes of a store by themselves and don't trust its calls. For the same reason
+// the functions below are given a store and a reference, and not all of `Receiving`: they can't see the receiver's counts.
 pub(crate) const TAKEN: u8 = 1;
 
 // Whether a store is well-formed and shows each page as the reference has it; then no letter in it is false.

@@ -11,12 +11,12 @@ use crate::sent::{LETTERS, Sent};
 use crate::shown::whole_row;
 use crate::tally::Tally;
 use channel::{Random, Rates, turned_bits};
-use coding::parity::{FIRST_LETTER, NO_LETTER};
+use coding::parity::FIRST_LETTER;
 use line::ROWS;
 use receiver::{Done, row, take_line};
 use std::alloc::{AllocError, Global};
 use std::array;
-use store::{MOST_SLOTS, SLOT_SIZE, version};
+use store::{MOST_SLOTS, NO_LETTER, SLOT_SIZE, version};
 
 // How many pages are drawn from, and how many odd numbers for the distance of their numbers.
 const PAGES: u64 = 100;
@@ -159,6 +159,7 @@ fn fill_slot(slot: &mut [u8], page: u8, marked: u64, random: &mut Random) {
 }
 
 // A letter, or none.
+#[tactic(auto, using(coding::proofs::Letters::letter_from), unfolding(store::specs::Layout::letter_fine))]
 fn any_letter(random: &mut Random) -> u8
     ensures { letter_fine result ≡ true }
 {

@@ -4,10 +4,10 @@ ghost use Rattle.trials.specs.Told.{told, version_told, letter_told, AllSent, Tw
 ghost use Rattle.trials.specs.Answers.{Due, lost_after, full_after};
 
 use crate::came::Came;
-use coding::parity::NO_LETTER;
 use line::{COLUMNS, Line, ROWS};
 use receiver::{Counts, Done};
 use std::alloc::{AllocError, Global};
+use store::NO_LETTER;
 
 // Of a byte that came undamaged.
 const NO_BITS: u8 = 0;

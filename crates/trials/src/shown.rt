@@ -7,10 +7,9 @@ ghost use Rattle.trials.specs.Same.{RowSame, RowShown, PageShown, WholeRow};
 use crate::reference::{Reference, ReferencePage};
 use crate::sent::Sent;
 use crate::tally::Tally;
-use coding::parity::NO_LETTER;
 use line::{COLUMNS, ROWS};
 use receiver::row;
-use store::version;
+use store::{NO_LETTER, version};
 
 // Whether a page is shown as the reference has it, and each letter as it was sent.
 pub fn shows_page(store: &[u8], reference: &Reference, number: u8, tally: &mut Tally) -> bool

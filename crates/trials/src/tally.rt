@@ -4,6 +4,7 @@ ghost use Rattle.trials.specs.Counts.{nothing, with_answer, with_row, with_recov
 
 use line::COLUMNS;
 use receiver::Done;
+use std::fmt;
 
 #[derive(Clone, Copy, Default)]
 pub struct Tally {
@@ -52,5 +53,29 @@ impl Tally {
         } else {
             self.without_room = self.without_room.saturating_add(1);
         }
+    }
+}
+
+// As it is printed, in three lines.
+impl fmt::Display for Tally {
+    fn fmt<W: fmt::Write>(&self, f: &mut fmt::Formatter<W>) -> fmt::Result {
+        let Tally {
+            taken,
+            lost,
+            full,
+            refused,
+            letters,
+            recovered,
+            without_room,
+        } = self;
+        writeln!(
+            f,
+            "lines: {taken} taken, {lost} lost, {full} without room, {refused} refused"
+        )?;
+        writeln!(f, "letters compared: {letters}")?;
+        write!(
+            f,
+            "pages sent whole: {recovered} recovered, {without_room} without room"
+        )
     }
 }
