@@ -1,3 +1,4 @@
 pub mod Damage
 pub mod Receive
 pub mod Send
+pub mod Words
