@@ -3,7 +3,7 @@ use Rattle.std.specs.Prelude.{◌≡◌, ℕ, ◌+◌, ◌-◌, ◌*◌, ◌^◌
 use Rattle.line.specs.Size.{columns}
 use Rattle.store.specs.Layout.{slots, holds, well_formed, page_in}
 use Rattle.store.specs.Slots.{has_row, RowOf, VersionOf}
-use Rattle.receiver.specs.Entry.{refusal, Answers, RefusedAt}
+use Rattle.receiver.specs.Entry.{number, refusal, Answers, RefusedAt}
 use Rattle.receiver.specs.Batch.{lines_refusal, TookLines, RefusedLines, LinesRefusedAt}
 use Rattle.receiver.specs.declared.entry.Counts.{Counts}
 use Rattle.receiver.specs.declared.entry.Done.{Done}
@@ -14,7 +14,7 @@ abbrev pub answer_number : Done → ℕ
 answer_number Took = 0
 answer_number Lost = 1
 answer_number Full = 2
-answer_number (Refused n) = 2 + n
+answer_number (Refused f) = 2 + number f
 
 -- a is the number of the answer to line l that comes to store s, which is then s₁
 pub record Answered (l s : List ℕ) (a : ℕ) (s₁ : List ℕ) : Type 0 where

@@ -1,11 +1,10 @@
 // Lines for C: a line taken, with its answer as a number, many lines at once, and the places of refusals.
-ghost use Rattle.std.specs.Prelude.{◌≡◌, ◌≤◌};
-ghost use Rattle.receiver.specs.Entry.{refusal_number};
+ghost use Rattle.std.specs.Prelude.{◌≡◌};
 ghost use Rattle.bridge.specs.Numbers.{answer_number, Answered, PlaceOrNone, AnsweredLines, LinesPlaceOrNone};
 
 use receiver::{Counts, Done, lines_refusal_place, refusal_place, take_line, take_lines};
 
-// The answers of `demborugy_take_line`; a refusal's number is added to `REFUSED`.
+// The answers of `demborugy_take_line`; a refusal's number is added to `REFUSED`. They are numbers since C's are, which `include/demborugy.h` names.
 const TOOK: u64 = 0;
 
 const LOST: u64 = 1;
@@ -19,14 +18,13 @@ const NO_PLACE: u64 = u64::MAX;
 
 // The number of an answer.
 fn answer_number(done: Done) -> u64
-    requires { refusal_number done ≤ 2 }
     ensures { result ≡ answer_number done }
 {
     match done {
         Done::Took => TOOK,
         Done::Lost => LOST,
         Done::Full => FULL,
-        Done::Refused(reason) => REFUSED + reason,
+        Done::Refused(refusal) => REFUSED + u64::from(refusal),
     }
 }
 
@@ -43,10 +41,7 @@ pub extern "C" fn demborugy_take_line(line: &[u8], store: &mut [u8]) -> u64
 pub extern "C" fn demborugy_refusal_place(line: &[u8], store: &[u8]) -> u64
     ensures { PlaceOrNone line.now store.now result }
 {
-    match refusal_place(line, store) {
-        Some(place) => place,
-        None => NO_PLACE,
-    }
+    refusal_place(line, store).unwrap_or(NO_PLACE)
 }
 
 // Takes lines that are laid end to end into a lent store, and counts in `lost` and `full` those that are lost and those without room. The answer is 0, or 2 + n if they are turned away with number n.
@@ -65,7 +60,7 @@ pub extern "C" fn demborugy_take_lines(
     };
     let answer = match take_lines(lines, store, &mut counts) {
         Ok(()) => TOOK,
-        Err(reason) => REFUSED + reason,
+        Err(refusal) => REFUSED + u64::from(refusal),
     };
     *lost = counts.lost;
     *full = counts.full;
@@ -77,8 +72,5 @@ pub extern "C" fn demborugy_take_lines(
 pub extern "C" fn demborugy_lines_refusal_place(lines: &[u8], store: &[u8]) -> u64
     ensures { LinesPlaceOrNone lines.now store.now result }
 {
-    match lines_refusal_place(lines, store) {
-        Some(place) => place,
-        None => NO_PLACE,
-    }
+    lines_refusal_place(lines, store).unwrap_or(NO_PLACE)
 }

@@ -29,8 +29,5 @@ pub extern "C" fn demborugy_row(store: &[u8], page: u64, at: u64, place: &mut us
 pub extern "C" fn demborugy_version(store: &[u8], page: u64) -> u64
     ensures { VersionOrNone store.now page result }
 {
-    match version(store, page) {
-        Some(number) => number as u64,
-        None => NO_VERSION,
-    }
+    version(store, page).map_or(NO_VERSION, u64::from)
 }

@@ -1,11 +1,11 @@
 -- The laws of letters with odd parity, each by one computed test over all bytes. Assumes nothing.
-use Rattle.std.proofs.Common.{◌≡◌, ℕ, ◌+◌, ◌/◌, ◌%◌, ◌<◌, ◌≤◌, Bool, true, false, not, ◌&&◌, ◌||◌, eqb, ltb, leb, sym, refl, ap, ◌∙◌, arith}
-use lib.Bits.{bit_xor, bit_and}
+use Rattle.std.proofs.Common.{◌≡◌, ℕ, ◌+◌, ◌%◌, ◌<◌, ◌≤◌, Bool, true, false, not, ◌&&◌, ◌||◌, eqb, ltb, leb, sym, refl, arith}
+use lib.Bits.{bit_xor}
 use lib.Count.{ones_in}
 use Rattle.std.proofs.lemmas.Bool.{and_parts, and_from, le-leb, leb-true, lt-ltb, ltb-true, eq-eqb, eqb-true, eqb-false, not-true, cond-true, cond-false, cond_both}
 use Rattle.coding.specs.Hamming.{distance}
 use Rattle.coding.specs.Parity.{is_letter, odd_parity, encode_letter, decode_letter}
-use Rattle.coding.specs.Laws.{ReadsWhole, DetectsOne, LetterLimitSharp}
+use Rattle.coding.specs.Laws.{LetterLimitSharp}
 use Rattle.coding.proofs.Below.{all_below, below_at, below_both, ◌implies◌, implied}
 
 pub letter_range : (c : ℕ) → is_letter c ≡ true → (32 ≤ c) × (c < 128)
@@ -15,32 +15,6 @@ letter_range c t = let p = and_parts (leb 32 c) (ltb c 128) t in (leb-true _ _ p
 pub letter_from : (c : ℕ) → 32 ≤ c → c < 128 → is_letter c ≡ true
 unfolding is_letter
 letter_from c lo hi = and_from _ _ (le-leb _ _ lo) (lt-ltb _ _ hi)
-
--- the parity by folding the byte's halves onto each other
-abbrev nibble : ℕ → ℕ
-nibble b = bit_xor b (b / 16)
-
-abbrev pair : ℕ → ℕ
-pair b = bit_xor (nibble b) (nibble b / 4)
-
-abbrev pub folded : ℕ → Bool
-folded b = eqb (bit_and (bit_xor (pair b) (pair b / 2)) 1) 1
-
-same : Bool → Bool → Bool
-same true b = b
-same false b = not b
-
-same_is : (a b : Bool) → same a b ≡ true → a ≡ b
-unfolding same
-same_is true b e = sym e
-same_is false b e = sym (not-true b e)
-
-folded_test : all_below 256 (λ b. same (folded b) (odd_parity b)) ≡ true
-unfolding ones_in odd_parity same
-folded_test = refl
-
-pub folded_is : (b : ℕ) → b < 256 → folded b ≡ odd_parity b
-folded_is b h = same_is _ _ (below_at 256 (λ b. same (folded b) (odd_parity b)) folded_test b h)
 
 -- what the distance of byte b from that of letter c says of the letter that it is read as
 letters_at : ℕ → ℕ → Bool
@@ -60,20 +34,23 @@ letters b c hb hc =
     let t = and_parts _ _ (implied _ _ (below_both 256 128 letters_at letters_test b c hb (letter_range c hc).1) hc) in
     record { whole = λ h. eqb-true _ _ (implied _ _ t.0 (eq-eqb _ _ h)); one = λ h. eqb-true _ _ (implied _ _ t.1 (eq-eqb _ _ h)) }
 
-pub reads_whole : (b : ℕ) → b < 256 → ReadsWhole b (decode_letter b)
+pub reads_whole : (b : ℕ) → b < 256 → (c : ℕ) → is_letter c ≡ true → distance (encode_letter c) b ≡ 0 → decode_letter b ≡ c
 reads_whole b hb c hc = (letters b c hb hc).whole
 
-pub detects_one : (b : ℕ) → b < 256 → DetectsOne b (decode_letter b)
+pub detects_one : (b : ℕ) → b < 256 → (c : ℕ) → is_letter c ≡ true → distance (encode_letter c) b ≡ 1 → decode_letter b ≡ 0
 detects_one b hb c hc = (letters b c hb hc).one
 
 -- the two tests of a byte, and what it is read as
-pub odd_letter : (b : ℕ) (p q : Bool) → p ≡ odd_parity b → q ≡ is_letter (b % 128) → (p && q) ≡ true → b % 128 ≡ decode_letter b
+pub odd_letter : (b : ℕ) → odd_parity b ≡ true → is_letter (b % 128) ≡ true → b % 128 ≡ decode_letter b
 unfolding decode_letter
-odd_letter b p q e d t = sym (cond-true _ _ _ (ap (λ x. x && is_letter (b % 128)) (sym e) ∙ ap (λ x. p && x) (sym d) ∙ t))
+odd_letter b odd letter = sym (cond-true _ _ _ (and_from _ _ odd letter))
 
-pub no_letter : (b : ℕ) (p q : Bool) → p ≡ odd_parity b → q ≡ is_letter (b % 128) → (p && q) ≡ false → 0 ≡ decode_letter b
+pub no_letter : (b : ℕ) → (odd_parity b && is_letter (b % 128)) ≡ false → decode_letter b ≡ 0
 unfolding decode_letter
-no_letter b p q e d t = sym (cond-false _ _ _ (ap (λ x. x && is_letter (b % 128)) (sym e) ∙ ap (λ x. p && x) (sym d) ∙ t))
+no_letter b failed = cond-false _ _ _ failed
+
+-- what the answer of `decode_letter` rests on
+pub ruleset letter_laws = (odd_letter, no_letter, reads_whole, detects_one, letter_range)
 
 -- the byte of letter c with its two lowest bits turned
 turned : ℕ → ℕ

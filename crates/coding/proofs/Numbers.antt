@@ -1,10 +1,11 @@
 -- The Hamming code's laws, each by one computed test over all bytes. Assumes nothing.
-use Rattle.std.proofs.Common.{◌≡◌, ℕ, ◌%◌, ◌<◌, ◌≤◌, Bool, true, not, ◌&&◌, eqb, ltb, leb, List, map, get_or, refl, ap, zero-add, arith}
+use Rattle.std.proofs.Common.{◌≡◌, ℕ, suc, ◌%◌, ◌<◌, ◌≤◌, Bool, true, false, not, ◌&&◌, eqb, ltb, leb, List, [], ◌∷◌, map, length, get_or, Option, Some, None, MatchOption, sym, refl, ap, ◌∙◌, zero-add, arith}
 use lib.Bits.{bit_xor, xor_lt, xor_self}
+use Rattle.std.specs.Bool.{then_some}
 use lib.Count.{ones, ones_in}
 use Rattle.std.specs.List.{range_with_len}
 use Rattle.std.proofs.lemmas.List.FromFn.{get_or-map-range_with_len}
-use Rattle.std.proofs.lemmas.Bool.{and_parts, le-leb, leb-true, ltb-true, eq-eqb, eqb-true, eqb-false, ne_eqb, not-true, not_from_false}
+use Rattle.std.proofs.lemmas.Bool.{and_parts, le-leb, leb-true, ltb-true, eq-eqb, eqb-true, eqb-false, ne_eqb, not-true, not_from_false, ltb-false, cond_both}
 use Rattle.coding.specs.Hamming.{distance, code_words, encode_number, nearest, decode_number}
 use Rattle.coding.specs.Laws.{CorrectsOne, DetectsTwo, MinimumDistance, NumberLimitSharp}
 use Rattle.coding.proofs.Below.{all_below, below_at, below_both, ◌implies◌, implied}
@@ -59,11 +60,37 @@ numbers b n hb hn =
       three = λ h. let w = and_parts _ _ (implied _ _ u.1 (eq-eqb _ _ h)) in (ltb-true _ _ w.0, eqb-false _ _ (not-true _ w.1));
     }
 
-pub corrects_one : (b : ℕ) → b < 256 → CorrectsOne b (decode_number b)
+pub corrects_one : (b : ℕ) → b < 256 → (n : ℕ) → n < 16 → distance (encode_number n) b ≤ 1 → decode_number b ≡ n
 corrects_one b hb n hn = (numbers b n hb hn).one
 
-pub detects_two : (b : ℕ) → b < 256 → DetectsTwo b (decode_number b)
+pub detects_two : (b : ℕ) → b < 256 → (n : ℕ) → n < 16 → distance (encode_number n) b ≡ 2 → decode_number b ≡ 16
 detects_two b hb n hn = (numbers b n hb hn).two
+
+-- r is the number that byte b is read as, or there is none
+abbrev pub IsRead : (b : ℕ) (r : Option ℕ) → Type 0
+IsRead b r = MatchOption r (decode_number b ≡ 16) (λ n. (n < 16) × (n ≡ decode_number b))
+
+nearest_most : (ws : List ℕ) (b : ℕ) → nearest ws b ≤ length ws
+unfolding nearest
+nearest_most [] b = omega arith
+nearest_most (w ∷ ws) b = cond_both (leb (distance w b) 1) 0 (suc (nearest ws b)) (λ x. x ≤ suc (length ws)) (λ _. omega arith) (λ _. omega (arith, nearest_most ws b))
+
+number_most : (b : ℕ) → decode_number b ≤ 16
+unfolding code_words decode_number
+number_most b = nearest_most code_words b
+
+-- the table's entry x, if it is below 16
+pub number_read : (b x : ℕ) (below : Bool) → below ≡ ltb x 16 → x ≡ decode_number b → IsRead b (then_some below x)
+number_read b x true t e = (ltb-true _ _ (sym t), e)
+number_read b x false f e = omega (arith, e, number_most b, ltb-false _ _ (sym f))
+
+pub read_corrects : (b : ℕ) (r : Option ℕ) → b < 256 → IsRead b r → CorrectsOne b r
+read_corrects b None hb w n hn near = absurd (omega (arith, w, corrects_one b hb n hn near))
+read_corrects b (Some x) hb w n hn near = ap Some (w.1 ∙ corrects_one b hb n hn near)
+
+pub read_detects : (b : ℕ) (r : Option ℕ) → b < 256 → IsRead b r → DetectsTwo b r
+read_detects b None hb w n hn two = refl
+read_detects b (Some x) hb w n hn two = absurd (omega (arith, w.0, w.1, detects_two b hb n hn two))
 
 pub number_limit_sharp : NumberLimitSharp
 number_limit_sharp n b hn hb = (numbers b n hb hn).three

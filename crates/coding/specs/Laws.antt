@@ -1,23 +1,23 @@
 -- What the two codes promise. Each is a statement that the contract of a function names. Assumes nothing: these are definitions.
-use Rattle.std.specs.Prelude.{◌≡◌, ℕ, ◌<◌, ◌≤◌, true, ◌≢◌}
+use Rattle.std.specs.Prelude.{◌≡◌, ℕ, ◌<◌, ◌≤◌, true, ◌≢◌, Option, Some, None}
 use Rattle.coding.specs.Hamming.{distance, encode_number, decode_number}
 use Rattle.coding.specs.Parity.{is_letter, encode_letter, decode_letter}
 
 -- r is the number that byte b was sent as, if at most one bit was turned on the way
-abbrev pub CorrectsOne : (b r : ℕ) → Type 0
-CorrectsOne b r = (n : ℕ) → n < 16 → distance (encode_number n) b ≤ 1 → r ≡ n
+abbrev pub CorrectsOne : (b : ℕ) (r : Option ℕ) → Type 0
+CorrectsOne b r = (n : ℕ) → n < 16 → distance (encode_number n) b ≤ 1 → r ≡ Some n
 
 -- r says that byte b is no number, if it was sent as one and two bits were turned
-abbrev pub DetectsTwo : (b r : ℕ) → Type 0
-DetectsTwo b r = (n : ℕ) → n < 16 → distance (encode_number n) b ≡ 2 → r ≡ 16
+abbrev pub DetectsTwo : (b : ℕ) (r : Option ℕ) → Type 0
+DetectsTwo b r = (n : ℕ) → n < 16 → distance (encode_number n) b ≡ 2 → r ≡ None
 
 -- r is the letter that byte b was sent as, if no bit was turned
-abbrev pub ReadsWhole : (b r : ℕ) → Type 0
-ReadsWhole b r = (c : ℕ) → is_letter c ≡ true → distance (encode_letter c) b ≡ 0 → r ≡ c
+abbrev pub ReadsWhole : (b : ℕ) (r : Option ℕ) → Type 0
+ReadsWhole b r = (c : ℕ) → is_letter c ≡ true → distance (encode_letter c) b ≡ 0 → r ≡ Some c
 
 -- r says that byte b is no letter, if it was sent as one and a bit was turned
-abbrev pub DetectsOne : (b r : ℕ) → Type 0
-DetectsOne b r = (c : ℕ) → is_letter c ≡ true → distance (encode_letter c) b ≡ 1 → r ≡ 0
+abbrev pub DetectsOne : (b : ℕ) (r : Option ℕ) → Type 0
+DetectsOne b r = (c : ℕ) → is_letter c ≡ true → distance (encode_letter c) b ≡ 1 → r ≡ None
 
 -- any two code words differ in four bits at least
 abbrev pub MinimumDistance : Type 0

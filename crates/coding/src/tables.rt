@@ -1,5 +1,8 @@
 // The two tables of the Hamming 8/4 code. Numbers stand for themselves; 16 says that a byte is no number.
 
+// How many numbers there are; in the table of bytes it stands for none.
+pub(crate) const NUMBER_COUNT: u8 = 16;
+
 // The code words of 0 to 15.
 pub(crate) const CODE_WORDS: [u8; 16] = [
     21, 2, 73, 94, 100, 115, 56, 47, 208, 199, 140, 155, 161, 182, 253, 234,

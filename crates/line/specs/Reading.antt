@@ -1,5 +1,5 @@
 -- What is read of bytes that came: whether they are a line that can be made out, and the fragment of a page that it gives. Assumes nothing: these are definitions.
-use Rattle.std.specs.Prelude.{◌≡◌, ℕ, zero, suc, ◌+◌, ◌*◌, Bool, true, cond, ◌&&◌, List, length, ◌==◌, nat_lt, slice_index}
+use Rattle.std.specs.Prelude.{◌≡◌, ℕ, zero, suc, ◌+◌, ◌*◌, ◌<◌, ◌⊎◌, Bool, true, cond, ◌&&◌, List, length, Option, MatchOption, ◌==◌, nat_lt, slice_index}
 use Rattle.coding.specs.Hamming.{decode_number}
 use Rattle.coding.specs.Parity.{decode_letter}
 use Rattle.line.specs.Size.{rows, columns}
@@ -13,6 +13,10 @@ number_of l k = decode_number (slice_index l k)
 -- the k-th number of the header, of its sixteens and its ones
 unfoldable pub pair_of : List ℕ → ℕ → ℕ
 pair_of l k = 16 * number_of l (2 * k) + number_of l (2 * k + 1)
+
+-- r is the number of two such digits, or there is none, since one of them is no number
+abbrev pub IsPairOf : (high low : ℕ) (r : Option ℕ) → Type 0
+IsPairOf high low r = MatchOption r ((high ≡ 16) ⊎ (low ≡ 16)) (λ n. (high < 16) × (low < 16) × (n ≡ 16 * high + low))
 
 -- the page, the version and the row that the header names
 abbrev pub page_of : List ℕ → ℕ

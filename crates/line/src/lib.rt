@@ -2,13 +2,13 @@
 #![tactic(auto)]
 
 ghost use Rattle.std.specs.Prelude.{◌≡◌, ℕ, ◌+◌, ◌*◌, ◌<◌, ◌≤◌, false, length, Decides, MatchOption, slice_index};
-ghost use Rattle.coding.specs.Hamming.{distance};
+ghost use Rattle.coding.specs.Hamming.{distance, decode_number};
 ghost use Rattle.line.specs.Line.{Valid, encode_line};
-ghost use Rattle.line.specs.Reading.{readable, HeaderOf};
+ghost use Rattle.line.specs.Reading.{readable, IsPairOf, HeaderOf};
 ghost use Rattle.line.specs.Damage.{row_line, WithinLimits};
 ghost use Rattle.line.specs.Laws.{ReadsPart, ReadsBrought, Undamaged};
 
-use coding::hamming::{NO_NUMBER, decode_number, encode_number, hamming_distance};
+use coding::hamming::{decode_number, encode_number, hamming_distance};
 use coding::parity::encode_letter;
 
 // The rows of a page.
@@ -23,7 +23,7 @@ pub struct Line {
     pub page: u8,
     pub version: u8,
     pub row: u8,
-    pub letters: [u8; 40],
+    pub letters: [u8; COLUMNS],
 }
 
 // What the six numbers of a line say.
@@ -51,20 +51,21 @@ impl Line {
     pub const LETTER_LIMIT: u32 = 1;
 
     // The bytes that the line is sent as.
-    pub fn encode(&self) -> [u8; 46]
+    pub fn encode(&self) -> [u8; Line::LENGTH]
         ensures bytes { result ≡ encode_line self.now }
         ensures undamaged { Valid self.now → Undamaged self.now result }
     {
-        let mut bytes = [0; 46];
-        bytes[0] = encode_number(self.page / 16);
-        bytes[1] = encode_number(self.page % 16);
-        bytes[2] = encode_number(self.version / 16);
-        bytes[3] = encode_number(self.version % 16);
-        bytes[4] = encode_number(self.row / 16);
-        bytes[5] = encode_number(self.row % 16);
-        for c in 0..40usize {
-            bytes[6 + c] = encode_letter(self.letters[c]);
-        }
+        let numbers = [
+            self.page / 16,
+            self.page % 16,
+            self.version / 16,
+            self.version % 16,
+            self.row / 16,
+            self.row % 16,
+        ];
+        let mut bytes = [0; Line::LENGTH];
+        bytes[..Line::NUMBERS].copy_from_slice(&numbers.map(encode_number));
+        bytes[Line::NUMBERS..].copy_from_slice(&self.letters.map(encode_letter));
         bytes
     }
 }
@@ -75,64 +76,44 @@ pub fn read_header(bytes: &[u8]) -> Option<Header>
     ensures part { ReadsPart bytes.now }
     ensures brought { ReadsBrought bytes.now }
 {
-    let wrong_length = bytes.len() != Line::LENGTH;
-    if wrong_length {
+    if bytes.len() != Line::LENGTH {
         return None;
     }
-    let page_high = decode_number(bytes[0]);
-    let page_low = decode_number(bytes[1]);
-    let version_high = decode_number(bytes[2]);
-    let version_low = decode_number(bytes[3]);
-    let row_high = decode_number(bytes[4]);
-    let row_low = decode_number(bytes[5]);
-    // all six are tested at once: `NO_NUMBER` has a bit that no number has
-    let no_number = (page_high | page_low | version_high | version_low | row_high | row_low)
-        >= NO_NUMBER;
-    if no_number {
-        return None;
-    }
-    let page = of_digits(page_high, page_low);
-    let version = of_digits(version_high, version_low);
-    let row = of_digits(row_high, row_low);
-    let no_such_row = row as usize >= ROWS;
-    if no_such_row {
+    let page = decode_digits(bytes[0], bytes[1])?;
+    let version = decode_digits(bytes[2], bytes[3])?;
+    let row = decode_digits(bytes[4], bytes[5])?;
+    if usize::from(row) >= ROWS {
         return None;
     }
     Some(Header { page, version, row })
 }
 
-// The number of two hexadecimal digits.
-fn of_digits(high: u8, low: u8) -> u8
-    requires high { high < 16 }
-    requires low { low < 16 }
-    ensures { result ≡ 16 * high + low }
+// The number of two hexadecimal digits, each in a byte, if both are numbers.
+fn decode_digits(high: u8, low: u8) -> Option<u8>
+    ensures { IsPairOf (decode_number high) (decode_number low) result }
 {
-    16 * high + low
+    Some(16 * decode_number(high)? + decode_number(low)?)
 }
 
 // Whether bytes that came may be a copy of a line that was sent, with no more bits turned than is allowed.
 pub fn within_limits(sent: &[u8], came: &[u8]) -> bool
     ensures { Decides result (WithinLimits row_line sent.now came.now) }
 {
-    let wrong_length = (sent.len() != Line::LENGTH) | (came.len() != Line::LENGTH);
-    if wrong_length {
+    if sent.len() != Line::LENGTH || came.len() != Line::LENGTH {
         return false;
     }
-    let numbers = turned_at_most(sent, came, 0, Line::NUMBERS, Line::NUMBER_LIMIT);
-    let letters = turned_at_most(sent, came, Line::NUMBERS, Line::LETTERS, Line::LETTER_LIMIT);
-    numbers & letters
+    let (sent_numbers, sent_letters) = sent.split_at(Line::NUMBERS);
+    let (came_numbers, came_letters) = came.split_at(Line::NUMBERS);
+    turned_at_most(sent_numbers, came_numbers, Line::NUMBER_LIMIT)
+        && turned_at_most(sent_letters, came_letters, Line::LETTER_LIMIT)
 }
 
-// Whether at most `limit` bits are turned in each of the `count` bytes from `from` on.
-fn turned_at_most(sent: &[u8], came: &[u8], from: usize, count: usize, limit: u32) -> bool
-    requires sent_fits { from + count ≤ length sent.now }
-    requires came_fits { from + count ≤ length came.now }
-    ensures { Decides result ((k : ℕ) → k < count → distance (slice_index sent.now (from + k)) (slice_index came.now (from + k)) ≤ limit) }
+// Whether at most `limit` bits are turned in each byte of one length.
+fn turned_at_most(sent: &[u8], came: &[u8], limit: u32) -> bool
+    requires { length sent.now ≡ length came.now }
+    ensures { Decides result ((k : ℕ) → k < length sent.now → distance (slice_index sent.now k) (slice_index came.now k) ≤ limit) }
 {
-    for k in 0..count {
-        if hamming_distance(sent[from + k], came[from + k]) > limit {
-            return false;
-        }
-    }
-    true
+    sent.iter()
+        .zip(came)
+        .all(|(s, c)| hamming_distance(*s, *c) <= limit)
 }

@@ -1,6 +1,6 @@
 -- What one call does to a store that isn't turned away, in three cases, and what it keeps. Assumes nothing.
-use Rattle.std.proofs.Common.{◌≡◌, ℕ, ◌<◌, true, false, eqb, ◌⊎◌, List, [], ◌∷◌, ◌++◌, length, sym, refl, ap, ◌∙◌, subst, inr, ⊎_elim, arith}
-use Rattle.std.proofs.lemmas.Bool.{eq-eqb, ne_eqb, cases_eq, both_ways, cond-true, cond-false}
+use Rattle.std.proofs.Common.{◌≡◌, ℕ, ◌<◌, Bool, true, false, eqb, ◌⊎◌, List, [], ◌∷◌, ◌++◌, length, sym, refl, ap, ◌∙◌, subst, inr, ⊎_elim, arith}
+use Rattle.std.proofs.lemmas.Bool.{eq-eqb, cases_eq, both_ways, cond-true}
 use Rattle.line.specs.Line.{meaning}
 use Rattle.line.specs.Laws.{PartOf}
 use Rattle.line.specs.Reading.{page_of, readable, fragment}
@@ -10,25 +10,21 @@ use Rattle.line.proofs.Copies.{reads_part}
 use Rattle.store.specs.Layout.{slots, mark_at, holds, well_formed}
 use Rattle.store.specs.Slots.{NoRoom, InSlot, Applied}
 use Rattle.store.proofs.Formed.{holds_parts, holds_not, other_mark, other_holds, same_slots}
-use Rattle.receiver.specs.Entry.{refusal, Answers}
+use Rattle.receiver.specs.Entry.{turned_away, refusal, Answers}
 use Rattle.receiver.specs.Broadcast.{CopyOfSent}
 use Rattle.receiver.specs.Runs.{Run, end, step}
 use Rattle.receiver.specs.declared.entry.Done.{Done}
 use Rattle.receiver.specs.declared.entry.Done.TheVariants.{Took, Lost, Full, Refused}
+use Rattle.receiver.specs.declared.refusal.Refusal.{Refusal}
 
 -- REFUSALS
 
-pub refused_line : (l s : List ℕ) → (length l ≡ 46 → ⊥) → refusal l s ≡ 1
-unfolding refusal
-refused_line l s ne = cond-false (eqb (length l) 46) _ _ (ne_eqb _ _ ne)
-
-pub refused_store : (l s : List ℕ) → length l ≡ 46 → well_formed s ≡ false → refusal l s ≡ 2
-unfolding refusal
-refused_store l s e b = cond-true (eqb (length l) 46) _ _ (eq-eqb _ _ e) ∙ cond-false (well_formed s) _ _ b
+pub accepted : (whole : Bool) (s : List ℕ) → whole ≡ true → well_formed s ≡ true → turned_away whole s ≡ 0
+unfolding turned_away
+accepted whole s e b = cond-true whole _ _ e ∙ cond-true (well_formed s) _ _ b
 
 pub not_refused : (l s : List ℕ) → length l ≡ 46 → well_formed s ≡ true → refusal l s ≡ 0
-unfolding refusal
-not_refused l s e b = cond-true (eqb (length l) 46) _ _ (eq-eqb _ _ e) ∙ cond-true (well_formed s) _ _ b
+not_refused l s e b = accepted (eqb (length l) 46) s (eq-eqb _ _ e) b
 
 -- ONE CALL
 
@@ -39,7 +35,7 @@ pub data Step (l s s₁ : List ℕ) : Type 0 where
   applied : readable l ≡ true → Applied (fragment l) s s₁ → Step l s s₁
 
 -- a line that a well-formed store turns away isn't 46 bytes long
-pub refused_useless : (l s s₁ : List ℕ) (f : ℕ) → well_formed s ≡ true → Answers l s (Refused f) s₁ → (readable l ≡ false) × (s₁ ≡ s)
+pub refused_useless : (l s s₁ : List ℕ) (f : Refusal) → well_formed s ≡ true → Answers l s (Refused f) s₁ → (readable l ≡ false) × (s₁ ≡ s)
 refused_useless l s s₁ f ok a =
     (⊎_elim (λ e. absurd (omega (arith, not_refused l s e ok, a.says.refused))) (λ ne. unreadable l (λ w. ne w.long)) (cases_eq (length l) 46), a.says.same)
 

@@ -1,7 +1,6 @@
 -- Lines laid end to end, taken one after the other. Assumes nothing: these are definitions.
-use Rattle.std.specs.Prelude.{◌≡◌, ℕ, zero, suc, ◌*◌, ◌/◌, ◌%◌, ◌<◌, cond, List, [], ◌∷◌, ◌++◌, length, take, drop, ◌==◌}
-use Rattle.store.specs.Layout.{well_formed, FirstFault}
-use Rattle.receiver.specs.Entry.{counted}
+use Rattle.std.specs.Prelude.{◌≡◌, ℕ, zero, suc, ◌*◌, ◌/◌, ◌%◌, ◌<◌, List, [], ◌∷◌, ◌++◌, length, take, drop, ◌==◌}
+use Rattle.receiver.specs.Entry.{turned_away, PlaceOf, counted}
 use Rattle.receiver.specs.Runs.{Run}
 use Rattle.receiver.specs.Promises.{Continue}
 use Rattle.receiver.specs.declared.entry.Done.{Done}
@@ -17,8 +16,8 @@ abbrev pub lines_in : List ℕ → List (List ℕ)
 lines_in bytes = first_lines bytes (length bytes / 46)
 
 -- why they are turned away: 1 if they aren't whole lines, 2 if the store isn't as it should be, 0 if they are not turned away
-unfoldable pub lines_refusal : (bytes s : List ℕ) → ℕ
-lines_refusal bytes s = cond (length bytes % 46 == 0) (cond (well_formed s) 0 2) 1
+abbrev pub lines_refusal : (bytes s : List ℕ) → ℕ
+lines_refusal bytes s = turned_away (length bytes % 46 == 0) s
 
 -- the counts with answers more, one after the other
 unfoldable pub counted_all : Counts → List Done → Counts
@@ -47,7 +46,5 @@ pub record RefusedLines (f : ℕ) (bytes s : List ℕ) (k : Counts) (s₁ : List
   pub count : k₁ ≡ k
 
 -- p is the place of a refusal: the length of the lines, or the first slot that isn't as it should be
-pub record LinesRefusedAt (bytes s : List ℕ) (p : ℕ) : Type 0 where
-  pub refused : 0 < lines_refusal bytes s
-  pub line : lines_refusal bytes s ≡ 1 → p ≡ length bytes
-  pub store : lines_refusal bytes s ≡ 2 → FirstFault s p
+abbrev pub LinesRefusedAt : (bytes s : List ℕ) (p : ℕ) → Type 0
+LinesRefusedAt bytes s p = PlaceOf (lines_refusal bytes s) (length bytes) s p

@@ -1,22 +1,33 @@
 -- What taking a line answers and leaves behind. Assumes nothing: these are definitions.
-use Rattle.std.specs.Prelude.{◌≡◌, ℕ, ◌+◌, ◌-◌, ◌^◌, ◌<◌, min, true, false, cond, List, length, ◌==◌}
+use Rattle.std.specs.Prelude.{◌≡◌, ℕ, ◌+◌, ◌-◌, ◌^◌, ◌<◌, min, Bool, true, false, cond, List, length, ◌==◌}
 use Rattle.line.specs.Reading.{page_of, readable, fragment}
 use Rattle.store.specs.Layout.{well_formed, FirstFault}
 use Rattle.store.specs.Slots.{NoRoom, Applied}
 use Rattle.receiver.specs.declared.entry.Done.{Done}
 use Rattle.receiver.specs.declared.entry.Done.TheVariants.{Took, Lost, Full, Refused}
 use Rattle.receiver.specs.declared.entry.Counts.{Counts}
+use Rattle.receiver.specs.declared.refusal.Refusal.{Refusal}
+use Rattle.receiver.specs.declared.refusal.Refusal.TheVariants.{Line, Store}
+
+-- the number of a refusal
+abbrev pub number : Refusal → ℕ
+number Line = 1
+number Store = 2
+
+-- the number of why lines are turned away that are for store s: of their length, if it isn't as it should be, or of the store; 0 if they are not turned away
+unfoldable pub turned_away : (whole : Bool) (s : List ℕ) → ℕ
+turned_away whole s = cond whole (cond (well_formed s) 0 (number Store)) (number Line)
 
 -- why a line is turned away: 1 if it isn't 46 bytes long, 2 if the store isn't as it should be, 0 if it is not turned away
-unfoldable pub refusal : (l s : List ℕ) → ℕ
-refusal l s = cond (length l == 46) (cond (well_formed s) 0 2) 1
+abbrev pub refusal : (l s : List ℕ) → ℕ
+refusal l s = turned_away (length l == 46) s
 
 -- the number that an answer gives: that of a refusal, else 0
 abbrev pub refusal_number : Done → ℕ
 refusal_number Took = 0
 refusal_number Lost = 0
 refusal_number Full = 0
-refusal_number (Refused f) = f
+refusal_number (Refused f) = number f
 
 -- the line was made out, and what it says applied to the store's pages
 pub record TookLine (l s s₁ : List ℕ) : Type 0 where
@@ -51,11 +62,15 @@ pub record Answers (l s : List ℕ) (r : Done) (s₁ : List ℕ) : Type 0 where
   pub number : refusal_number r ≡ refusal l s
   pub says : Says l s r s₁
 
+-- p is the place of refusal f of lines of a length that are for store s: the length, or the first slot that isn't as it should be
+pub record PlaceOf (f long : ℕ) (s : List ℕ) (p : ℕ) : Type 0 where
+  pub refused : 0 < f
+  pub line : f ≡ number Line → p ≡ long
+  pub store : f ≡ number Store → FirstFault s p
+
 -- p is the place of a refusal: the line's length, or the first slot that isn't as it should be
-pub record RefusedAt (l s : List ℕ) (p : ℕ) : Type 0 where
-  pub refused : 0 < refusal l s
-  pub line : refusal l s ≡ 1 → p ≡ length l
-  pub store : refusal l s ≡ 2 → FirstFault s p
+abbrev pub RefusedAt : (l s : List ℕ) (p : ℕ) → Type 0
+RefusedAt l s p = PlaceOf (refusal l s) (length l) s p
 
 -- a count stops at its largest
 abbrev pub one_more : ℕ → ℕ

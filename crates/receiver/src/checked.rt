@@ -5,7 +5,7 @@ ghost use Rattle.store.specs.Directory.{Lists};
 ghost use Rattle.receiver.specs.Entry.{Answers};
 ghost use Rattle.receiver.specs.Batch.{TakenFirst};
 
-use crate::entry::{Counts, Done, count};
+use crate::entry::{Counts, Done};
 use line::{Line, read_header};
 use store::{Directory, apply_listed};
 
@@ -43,10 +43,9 @@ pub(crate) fn take_each(
     let mut done = Done::Took;
     // counted here and written once, so that no line waits for the lent counts
     let mut total = *counts;
-    for k in 0..lines.len() / Line::LENGTH {
-        let at = Line::LENGTH * k;
-        done = take_one(&lines[at..at + Line::LENGTH], store, directory);
-        total = count(total, done);
+    for line in lines.chunks_exact(Line::LENGTH) {
+        done = take_one(line, store, directory);
+        total.count(done);
     }
     *counts = total;
     done

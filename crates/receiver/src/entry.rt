@@ -4,11 +4,11 @@ ghost use Rattle.receiver.specs.Entry.{refusal, Answers, RefusedAt, counted};
 ghost use Rattle.receiver.specs.Promises.{Continues, TwoTurnedLost};
 
 use crate::checked::take_each;
+use crate::refusal::{Refusal, accept, place};
 use line::Line;
-use store::{find_fault, read_directory};
 
 // What taking a line answers.
-#[derive(Clone, Copy)]
+#[derive(Clone, Copy, Debug, PartialEq, Eq)]
 pub enum Done {
     // What the line says was applied to the store's pages.
     Took,
@@ -16,65 +16,45 @@ pub enum Done {
     Lost,
     // There is no room for the line's page.
     Full,
-    // The line was turned away, for the reason with this number.
-    Refused(u64),
+    // The line was turned away.
+    Refused(Refusal),
 }
 
 // How many lines were lost, and for how many there was no room. A count stops at its largest.
-#[derive(Clone, Copy)]
+#[derive(Clone, Copy, Debug, Default, PartialEq, Eq)]
 pub struct Counts {
     pub lost: u64,
     pub full: u64,
 }
 
-// The line isn't 46 bytes long.
-pub const REFUSED_LINE: u64 = 1;
-
-// The store isn't as it should be.
-pub const REFUSED_STORE: u64 = 2;
+impl Counts {
+    // Counts one more answer.
+    pub(crate) fn count(&mut self, done: Done)
+        ensures { self.new ≡ counted self.old done }
+    {
+        match done {
+            Done::Lost => self.lost = self.lost.saturating_add(1),
+            Done::Full => self.full = self.full.saturating_add(1),
+            Done::Took | Done::Refused(_) => {}
+        }
+    }
+}
 
 // Takes a line into a lent store.
 pub fn take_line(line: &[u8], store: &mut [u8]) -> Done
     ensures { Answers line.now store.old result store.new }
 {
-    if line.len() != Line::LENGTH {
-        return Done::Refused(REFUSED_LINE);
+    match accept(line.len() == Line::LENGTH, store) {
+        Ok(mut directory) => take_each(line, store, &mut directory, &mut Counts::default()),
+        Err(refusal) => Done::Refused(refusal),
     }
-    let Ok(mut directory) = read_directory(store) else {
-        return Done::Refused(REFUSED_STORE);
-    };
-    let mut counts = Counts { lost: 0, full: 0 };
-    take_each(line, store, &mut directory, &mut counts)
 }
 
 // The place of a refusal: the line's length, or the first slot of the store that isn't as it should be; none if the line isn't turned away.
 pub fn refusal_place(line: &[u8], store: &[u8]) -> Option<u64>
     ensures { MatchOption result (refusal line.now store.now ≡ 0) (λ p. RefusedAt line.now store.now p) }
 {
-    if line.len() != Line::LENGTH {
-        return Some(line.len() as u64);
-    }
-    match find_fault(store) {
-        Some(slot) => Some(slot as u64),
-        None => None,
-    }
-}
-
-// The counts with one more answer.
-pub(crate) fn count(counts: Counts, done: Done) -> Counts
-    ensures { result ≡ counted counts done }
-{
-    match done {
-        Done::Lost => Counts {
-            lost: counts.lost.saturating_add(1),
-            full: counts.full,
-        },
-        Done::Full => Counts {
-            lost: counts.lost,
-            full: counts.full.saturating_add(1),
-        },
-        Done::Took | Done::Refused(_) => counts,
-    }
+    place(line.len() == Line::LENGTH, line.len(), store)
 }
 
 // Takes a line into a lent store, and counts it. Whatever run of calls led to the store, it keeps the promises with this line after it.
@@ -85,6 +65,6 @@ pub fn receive(line: &[u8], store: &mut [u8], counts: &mut Counts) -> Done
     ensures two_turned { TwoTurnedLost line.now store.old counts.old result store.new counts.new }
 {
     let done = take_line(line, store);
-    *counts = count(*counts, done);
+    counts.count(done);
     done
 }

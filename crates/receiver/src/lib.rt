@@ -5,11 +5,13 @@ mod batch;
 mod checked;
 mod entry;
 mod laws;
+mod refusal;
 mod rows;
 
 pub use batch::{lines_refusal_place, take_lines};
 pub use entry::{Counts, Done, receive, refusal_place, take_line};
 pub use laws::order_laws;
+pub use refusal::Refusal;
 pub use rows::row;
 
 #[cfg(test)]

@@ -8,12 +8,10 @@ use Rattle.line.proofs.Readability.{readable_parts}
 use Rattle.store.specs.Page.{Page, begun, in_version, merge, overlay, apply, ShowsSame}
 use Rattle.store.specs.Layout.{slots, version_at, holds, well_formed, slot_page, page_in}
 use Rattle.store.specs.Slots.{OnlySlot, LowestFree, Applied}
-use Rattle.store.specs.Directory.{Lists}
-use Rattle.store.specs.declared.directory.Directory.{Directory}
+use Rattle.store.specs.Directory.{SamePlaces}
 use Rattle.store.specs.Writes.{row_start, Found, Free, Begun, Claimed, Merged}
 use Rattle.store.proofs.Formed.{holds_from, holds_not, holds_parts, holds_same, same_slots}
 use Rattle.store.proofs.Pages.{shows_then, shows_is, page_held, slot_letter, slot_there, slot_version, absent_there, other_pages}
-use Rattle.store.proofs.Listing.{lists_same, taken_same}
 use Rattle.store.proofs.Writing.{merged_only, merged_mark, merged_number, merged_marks, merged_holds, merged_formed}
 
 in_version_kept : (s : List ℕ) (i v : ℕ) → version_at s i ≡ v → in_version (slot_page s i) v ≡ slot_page s i
@@ -102,11 +100,8 @@ applied s t u l i h head bytes ok long long₂ claimed merged =
     }
 
 -- a line's letters leave each page in its slot
-pub lists_merged : (t u l : List ℕ) (d : Directory) (i : ℕ) (h : Header) → HeaderOf l h → ((k : ℕ) → get_or l k 0 < 256) → i < slots t → length u ≡ length t → Merged t l u (row_start i h.row) 40 → Lists t d → Lists u d
-lists_merged t u l d i h head bytes within long merged w =
+pub same_merged : (t u l : List ℕ) (i : ℕ) (h : Header) → HeaderOf l h → ((k : ℕ) → get_or l k 0 < 256) → i < slots t → length u ≡ length t → Merged t l u (row_start i h.row) 40 → SamePlaces t u
+same_merged t u l i h head bytes within long merged =
     let m : Merged t l u (row_start i (row_of l)) 40 = subst (λ x. Merged t l u (row_start i x) 40) head.row merged in
     let row : row_of l < 25 = (readable_parts l head.readable).row in
-    record {
-      pages = lists_same t u d.entries long (merged_holds t l u i (row_of l) within row long bytes m) w.pages;
-      taken = taken_same t u d.taken long (merged_marks t l u i (row_of l) within row long bytes m) w.taken;
-    }
+    record { long = long; marks = merged_marks t l u i (row_of l) within row long bytes m; pages = merged_holds t l u i (row_of l) within row long bytes m }

@@ -3,11 +3,8 @@ use Rattle.std.proofs.Common.{◌≡◌, ℕ, ◌+◌, ◌*◌, ◌<◌, ◌≤�
 use Rattle.std.proofs.lemmas.Bool.{and_from, and_left, and_right, and_cases, and_parts, lt-ltb, le-ltb, ltb-true, both_ways}
 use Rattle.store.specs.Layout.{slots, version_at, holds, well_formed, page_in}
 use Rattle.store.specs.Slots.{has_row, RowPlace, RowOf, VersionOf}
-use Rattle.store.specs.Directory.{Lists}
-use Rattle.store.specs.declared.directory.Directory.{Directory}
 use Rattle.store.specs.Writes.{row_start, Found}
 use Rattle.store.proofs.Formed.{holds_not}
-use Rattle.store.proofs.Listing.{listed_found}
 use Rattle.store.proofs.Pages.{page_held, page_there, absent_there, slot_letter, slot_version}
 
 -- no slot's byte is a number above 255
@@ -20,11 +17,10 @@ not_there s n f = and_right (well_formed s) (page_in s n).there (absent_there s 
 pub not_there_wide : (s : List ℕ) (n : ℕ) → ((k : ℕ) → get_or s k 0 < 256) → 255 < n → (well_formed s && (page_in s n).there) ≡ false
 not_there_wide s n small big = not_there s n (wide_absent s n small big)
 
--- what a directory answers, of the store
-pub found_in : (s : List ℕ) (d : Directory) (n : ℕ) (r : Option ℕ) → well_formed s ≡ true → Lists s d → n < 256 → MatchOption r (get_or d.entries n 0 ≡ 255) (λ i. (i ≡ get_or d.entries n 0) × (i < 255)) →
-    MatchOption r ((well_formed s && (page_in s n).there) ≡ false) (λ i. (well_formed s ≡ true) × Found s n i)
-found_in s d n None ok w h e = not_there s n ((w.pages n h).absent e)
-found_in s d n (Some i) ok w h e = (ok, listed_found s d n i w h e)
+-- what is found in a store that is as it should be
+pub found_in : (s : List ℕ) (n : ℕ) (r : Option ℕ) → well_formed s ≡ true → MatchOption r ((k : ℕ) → k < slots s → holds s n k ≡ false) (λ i. Found s n i) → MatchOption r ((well_formed s && (page_in s n).there) ≡ false) (λ i. (well_formed s ≡ true) × Found s n i)
+found_in s n None ok absent = not_there s n absent
+found_in s n (Some i) ok found = (ok, found)
 
 -- ROWS
 

@@ -1,5 +1,5 @@
 -- Many letters tested by two sums of their bits. Assumes nothing.
-use Rattle.std.proofs.Common.{◌≡◌, ℕ, ◌+◌, ◌%◌, ◌<◌, min, Bool, true, false, ◌&&◌, eqb, ltb, List, get_or, sym, refl, ap, ◌∙◌, add-one}
+use Rattle.std.proofs.Common.{◌≡◌, ℕ, zero, suc, ◌+◌, ◌%◌, ◌<◌, min, Bool, true, false, ◌&&◌, eqb, ltb, List, get_or, sym, refl, ap, ◌∙◌, zero-add, add-one, arith}
 use lib.Bits.{bit_and, bit_or}
 use Rattle.std.proofs.lemmas.Bool.{and_parts, ltb-true}
 use Rattle.coding.specs.Parity.{is_letter}
@@ -63,18 +63,24 @@ swapped false true = refl
 swapped false false = refl
 
 -- one letter more
-pub sums_more : (s : List ℕ) (at k low high m : ℕ) → get_or s (at + k) 0 < 256 → low < 64 → high < 256 → m ≡ min (get_or s (at + k) 0) 32 → sums_fine low high ≡ letters_fine s at k →
-    (sums_fine (bit_or low m) (bit_or high (get_or s (at + k) 0)) ≡ letters_fine s at (k + 1)) × (bit_or low m < 64) × (bit_or high (get_or s (at + k) 0) < 256)
+pub sums_more : (s : List ℕ) (at k low high b m : ℕ) → b ≡ get_or s (at + k) 0 → b < 256 → low < 64 → high < 256 → m ≡ min b 32 → sums_fine low high ≡ letters_fine s at k →
+    (sums_fine (bit_or low m) (bit_or high b) ≡ letters_fine s at (k + 1)) × (bit_or low m < 64) × (bit_or high b < 256)
 unfolding letters_fine
-sums_more s at k low high m small lo hi is before =
-    let b : ℕ = get_or s (at + k) 0 in
+sums_more s at k low high b m here small lo hi is before =
     let own = and_parts _ _ (below_at 256 byte_test byte_tests b small) in
     let m-small : m < 64 = rw is (ltb-true (min b 32) 64 own.1) in
     let p = and_parts _ _ (below_both 64 64 low_test low_tests low m lo m-small) in
     let q = and_parts _ _ (below_both 256 256 high_test high_tests high b hi small) in (
       ap (λ x. x && ltb (bit_or high b) 128) (same_is _ _ p.0) ∙ ap (λ x. (eqb (low % 32) 0 && eqb (m % 32) 0) && x) (same_is _ _ q.0)
           ∙ between (eqb (low % 32) 0) (ltb high 128) (eqb (m % 32) 0) (ltb b 128) ∙ ap (λ x. x && sums_fine m b) before ∙ swapped (letters_fine s at k) (sums_fine m b)
-          ∙ ap (λ x. sums_fine x b && letters_fine s at k) is ∙ ap (λ x. x && letters_fine s at k) (sym (same_is _ _ own.0)) ∙ ap (letters_fine s at) (sym (add-one k)),
+          ∙ ap (λ x. sums_fine x b && letters_fine s at k) is ∙ ap (λ x. x && letters_fine s at k) (sym (same_is _ _ own.0) ∙ ap letter_fine here) ∙ ap (letters_fine s at) (sym (add-one k)),
       ltb-true _ _ p.1,
       ltb-true _ _ q.1,
     )
+
+-- letters that stand elsewhere too
+pub letters_there : (s t : List ℕ) (at n : ℕ) → ((k : ℕ) → k < n → get_or t k 0 ≡ get_or s (at + k) 0) → letters_fine t 0 n ≡ letters_fine s at n
+unfolding letters_fine
+letters_there s t at zero f = refl
+letters_there s t at (suc k) f =
+    ap (λ x. letter_fine x && letters_fine t 0 k) (ap (λ j. get_or t j 0) (zero-add k) ∙ f k (omega arith)) ∙ ap (λ x. letter_fine (get_or s (at + k) 0) && x) (letters_there s t at k (λ j h. f j (omega arith)))

@@ -1,10 +1,10 @@
 -- The directory of a store, as slots are passed, begun and written. Assumes nothing.
-use Rattle.std.proofs.Common.{◌≡◌, ℕ, zero, suc, ◌+◌, ◌<◌, Bool, true, false, not, ◌||◌, eqb, List, length, get_or, set, replicate, sym, refl, ap, ◌∙◌, subst, inl, inr, ⊎_elim, arith, get_or-set_other, get_or-set_same, below_more}
+use Rattle.std.proofs.Common.{◌≡◌, ℕ, zero, suc, ◌+◌, ◌<◌, ◌≤◌, true, false, List, length, get_or, set, replicate, MatchOption, Option, Some, None, is_some, sym, refl, ap, ◌∙◌, subst, inl, inr, ⊎_elim, arith, get_or-set_other, get_or-set_same, below_more}
 use lib.ListN.{get_or-replicate}
-use Rattle.std.proofs.lemmas.Bool.{cases_eq, eq-eqb, ne_eqb, or_left, or_right, or_from, not_from_true, not_from_false}
+use Rattle.std.proofs.lemmas.Bool.{cases_eq, cases_lt, or_left, or_right, or_from}
 use Rattle.store.specs.Layout.{slots, mark_at, number_at, holds}
-use Rattle.store.specs.Directory.{EntryOf, ListsBelow, TakenBelow, Lists}
-use Rattle.store.specs.Writes.{held_below, Found, Begun}
+use Rattle.store.specs.Directory.{EntryOf, ListsBelow, TakenBelow, Lists, SamePlaces}
+use Rattle.store.specs.Writes.{held_below, Found, Free, Begun}
 use Rattle.store.specs.declared.directory.Directory.{Directory}
 use Rattle.store.proofs.Formed.{holds_from, holds_not, holds_parts, holds_same, other_mark, other_holds, same_slots}
 
@@ -19,65 +19,59 @@ held_no s n zero f = refl
 held_no s n (suc i) f = or_from (holds s n i) (held_below s n i) (f i (omega arith)) (held_no s n i (λ j h. f j (omega arith)))
 
 -- an entry tells whether the page stands there
-pub entry_tells : (s : List ℕ) (n k i : ℕ) → EntryOf s n k i → not (eqb k 255) ≡ held_below s n i
-entry_tells s n k i w =
-    ⊎_elim (λ e. not_from_true (eqb k 255) (eq-eqb k 255 e) ∙ sym (held_no s n i (w.absent e)))
-    (λ ne. not_from_false (eqb k 255) (ne_eqb k 255 ne) ∙ sym (held_yes s n k i (w.found ne).0 (w.found ne).1)) (cases_eq k 255)
+pub entry_tells : (s : List ℕ) (n : ℕ) (entry : Option ℕ) (i : ℕ) → EntryOf s n entry i → is_some entry ≡ held_below s n i
+entry_tells s n None i w = sym (held_no s n i w)
+entry_tells s n (Some k) i w = sym (held_yes s n k i w.0 w.1)
 
--- PASSING SLOTS
+-- SLOTS THAT ARE PASSED
 
-pub lists_none : (s : List ℕ) → ListsBelow s (replicate 256 255) 0
-lists_none s n h = record { found = λ ne. absurd (ne (get_or-replicate 256 n 255 0 h)); absent = λ _ k lt. absurd (omega arith) }
+pub lists_none : (s : List ℕ) → ListsBelow s (replicate 256 None) 0
+lists_none s n h = subst (λ e. EntryOf s n e 0) (sym (get_or-replicate 256 n None None h)) (λ k lt. absurd (omega arith))
 
-one_more : (s : List ℕ) (n k i : ℕ) → EntryOf s n k i → holds s n i ≡ false → EntryOf s n k (i + 1)
-one_more s n k i w away = record { found = λ ne. (omega (arith, (w.found ne).0), (w.found ne).1); absent = λ e. below_more (λ j. holds s n j ≡ false) i (w.absent e) away }
+one_more : (s : List ℕ) (n : ℕ) (entry : Option ℕ) (i : ℕ) → EntryOf s n entry i → holds s n i ≡ false → EntryOf s n entry (i + 1)
+one_more s n None i w away = below_more (λ j. holds s n j ≡ false) i w away
+one_more s n (Some k) i w away = (omega (arith, w.0), w.1)
 
 -- one that is free
-pub lists_free : (s table : List ℕ) (i : ℕ) → (mark_at s i ≡ 1 → ⊥) → ListsBelow s table i → ListsBelow s table (i + 1)
-lists_free s table i off w n h = one_more s n (get_or table n 0) i (w n h) (holds_not s n i (inl off))
+pub lists_free : (s : List ℕ) (table : List (Option ℕ)) (i : ℕ) → (mark_at s i ≡ 1 → ⊥) → ListsBelow s table i → ListsBelow s table (i + 1)
+lists_free s table i off w n h = one_more s n (get_or table n None) i (w n h) (holds_not s n i (inl off))
 
 -- one that holds a page
-pub lists_page : (s table : List ℕ) (i : ℕ) → i < 255 → length table ≡ 256 → number_at s i < 256 → mark_at s i ≡ 1 → ListsBelow s table i → ListsBelow s (set table (number_at s i) i) (i + 1)
-lists_page s table i few long small on w n h =
+pub lists_page : (s : List ℕ) (table : List (Option ℕ)) (i : ℕ) → length table ≡ 256 → number_at s i < 256 → mark_at s i ≡ 1 → ListsBelow s table i → ListsBelow s (set table (number_at s i) (Some i)) (i + 1)
+lists_page s table i long small on w n h =
     let p : ℕ = number_at s i in
     ⊎_elim
-    (λ e. subst (λ k. EntryOf s n k (i + 1)) (sym (ap (λ m. get_or (set table p i) m 0) e ∙ get_or-set_same table p i 0 (omega arith)))
-    (record { found = λ ne. (omega arith, holds_from s n i on (sym e)); absent = λ bad. absurd (omega arith) }))
-    (λ ne. subst (λ k. EntryOf s n k (i + 1)) (sym (get_or-set_other table p n i 0 ne)) (one_more s n (get_or table n 0) i (w n h) (holds_not s n i (inr (λ x. ne (sym x))))))
+    (λ e. subst (λ k. EntryOf s n k (i + 1)) (sym (ap (λ m. get_or (set table p (Some i)) m None) e ∙ get_or-set_same table p (Some i) None (omega arith))) (omega arith, holds_from s n i on (sym e)))
+    (λ ne. subst (λ k. EntryOf s n k (i + 1)) (sym (get_or-set_other table p n (Some i) None ne)) (one_more s n (get_or table n None) i (w n h) (holds_not s n i (inr (λ x. ne (sym x))))))
     (cases_eq n p)
 
 -- SLOTS THAT CHANGE
 
--- a store whose slots hold the same pages
-pub lists_same : (s t table : List ℕ) → length t ≡ length s → ((n j : ℕ) → holds t n j ≡ holds s n j) → ListsBelow s table (slots s) → ListsBelow t table (slots t)
-lists_same s t table long same w =
-    subst (λ k. ListsBelow t table k) (sym (same_slots s t long))
-    (λ n h. record { found = λ ne. let a = (w n h).found ne in (a.0, same n _ ∙ a.1); absent = λ e k lt. same n k ∙ (w n h).absent e k lt })
-
 -- the slot of a page begun anew
-pub lists_anew : (s t table : List ℕ) (i n v : ℕ) → length t ≡ length s → holds s n i ≡ true → Begun s t i n v → ListsBelow s table (slots s) → ListsBelow t table (slots t)
-lists_anew s t table i n v long e b w =
+pub same_begun : (s t : List ℕ) (i n v : ℕ) → length t ≡ length s → holds s n i ≡ true → Begun s t i n v → SamePlaces s t
+same_begun s t i n v long e b =
     let was = holds_parts s n i e in
-    lists_same s t table long (λ m j. ⊎_elim (λ q. rw q (holds_same s t m i (b.mark ∙ sym was.0) (b.number ∙ sym was.1))) (λ ne. other_holds s t i b.only m j ne) (cases_eq j i)) w
+    record {
+      long = long;
+      marks = λ j. ⊎_elim (λ q. rw q (b.mark ∙ sym was.0)) (λ ne. other_mark s t i b.only j ne) (cases_eq j i);
+      pages = λ m j. ⊎_elim (λ q. rw q (holds_same s t m i (b.mark ∙ sym was.0) (b.number ∙ sym was.1))) (λ ne. other_holds s t i b.only m j ne) (cases_eq j i);
+    }
 
 -- a free slot begun, and the page listed there
-pub lists_begun : (s t table : List ℕ) (i n v : ℕ) → length t ≡ length s → length table ≡ 256 → n < 256 → i < 255 → i < slots s → mark_at s i ≡ 0 → Begun s t i n v → ListsBelow s table (slots s) → ListsBelow t (set table n i) (slots t)
-lists_begun s t table i n v long wide small few within off b w =
-    subst (λ k. ListsBelow t (set table n i) k) (sym (same_slots s t long))
+pub lists_begun : (s t : List ℕ) (table : List (Option ℕ)) (i n v : ℕ) → length t ≡ length s → length table ≡ 256 → n < 256 → Free s i → Begun s t i n v → ListsBelow s table (slots s) → ListsBelow t (set table n (Some i)) (slots t)
+lists_begun s t table i n v long wide small free b w =
+    subst (λ k. ListsBelow t (set table n (Some i)) k) (sym (same_slots s t long))
     (λ m h. ⊎_elim
-    (λ e. subst (λ k. EntryOf t m k (slots s)) (sym (ap (λ k. get_or (set table n i) k 0) e ∙ get_or-set_same table n i 0 (omega arith)))
-    (record { found = λ ne. (within, holds_from t m i b.mark (b.number ∙ sym e)); absent = λ bad. absurd (omega arith) }))
-    (λ ne. subst (λ k. EntryOf t m k (slots s)) (sym (get_or-set_other table n m i 0 ne)) (other m h ne))
+    (λ e. subst (λ k. EntryOf t m k (slots s)) (sym (ap (λ k. get_or (set table n (Some i)) k None) e ∙ get_or-set_same table n (Some i) None (omega arith)))
+    (free.within, holds_from t m i b.mark (b.number ∙ sym e)))
+    (λ ne. subst (λ k. EntryOf t m k (slots s)) (sym (get_or-set_other table n m (Some i) None ne)) (other m ne (get_or table m None) (w m h)))
     (cases_eq m n))
   where
-    other : (m : ℕ) → m < 256 → (m ≡ n → ⊥) → EntryOf t m (get_or table m 0) (slots s)
-    other m h ne = record {
-      found = λ f.
-          let a = (w m h).found f in
-          let away : get_or table m 0 ≡ i → ⊥ = λ q. absurd (omega (arith, off, (holds_parts s m i (subst (λ k. holds s m k ≡ true) q a.1)).0)) in
-          (a.0, other_holds s t i b.only m _ away ∙ a.1);
-      absent = λ f k lt. ⊎_elim (λ q. rw q (holds_not t m i (inr (λ x. ne (sym x ∙ b.number))))) (λ nk. other_holds s t i b.only m k nk ∙ (w m h).absent f k lt) (cases_eq k i);
-    }
+    other : (m : ℕ) → (m ≡ n → ⊥) → (entry : Option ℕ) → EntryOf s m entry (slots s) → EntryOf t m entry (slots s)
+    other m ne None f = λ k lt. ⊎_elim (λ q. rw q (holds_not t m i (inr (λ x. ne (sym x ∙ b.number))))) (λ nk. other_holds s t i b.only m k nk ∙ f k lt) (cases_eq k i)
+    other m ne (Some k) f =
+        let away : k ≡ i → ⊥ = λ q. absurd (omega (arith, free.here, (holds_parts s m i (subst (λ j. holds s m j ≡ true) q f.1)).0)) in
+        (f.0, other_holds s t i b.only m k away ∙ f.1)
 
 -- a slot that was begun is not free, and no other mark changed
 pub taken_begun : (s t : List ℕ) (i n v k : ℕ) → length t ≡ length s → Begun s t i n v → TakenBelow s k → TakenBelow t k
@@ -85,13 +79,26 @@ taken_begun s t i n v k long b w j h within off =
     ⊎_elim (λ e. absurd (omega (arith, b.mark, ap (mark_at t) (sym e) ∙ off)))
     (λ ne. w j h (subst (λ m. j < m) (same_slots s t long) within) (sym (other_mark s t i b.only j ne) ∙ off)) (cases_eq j i)
 
--- a change that leaves the marks as they are
-pub taken_same : (s t : List ℕ) (k : ℕ) → length t ≡ length s → ((j : ℕ) → mark_at t j ≡ mark_at s j) → TakenBelow s k → TakenBelow t k
-taken_same s t k long same w j h within off = w j h (subst (λ m. j < m) (same_slots s t long) within) (sym (same j) ∙ off)
+-- WHAT IS SEARCHED
 
--- WHAT IS FOUND
+-- the first free slot of those behind some that aren't free
+pub lowest_free : (s : List ℕ) (from : ℕ) (r : Option ℕ) → TakenBelow s from →
+    MatchOption r ((k : ℕ) → from ≤ k → k < slots s → mark_at s k ≡ 0 → ⊥) (λ i. (from ≤ i) × (i < slots s) × (mark_at s i ≡ 0) × ((k : ℕ) → from ≤ k → k < i → mark_at s k ≡ 0 → ⊥)) →
+    MatchOption r ((k : ℕ) → k < slots s → mark_at s k ≡ 0 → ⊥) (λ i. Free s i)
+lowest_free s from None taken w = λ k h. ⊎_elim (λ lt. taken k lt h) (λ le. w k le h) (cases_lt k from)
+lowest_free s from (Some i) taken w = record { within = w.1; here = w.2; before = λ k h. ⊎_elim (λ lt. taken k lt (omega (arith, h, w.1))) (λ le. w.3 k le h) (cases_lt k from) }
 
-pub listed_found : (s : List ℕ) (d : Directory) (n i : ℕ) → Lists s d → n < 256 → (i ≡ get_or d.entries n 0) × (i < 255) → Found s n i
-listed_found s d n i w h e =
-    let a = (w.pages n h).found (omega (arith, e.0, e.1)) in
-    record { within = subst (λ k. k < slots s) (sym e.0) a.0; here = ap (holds s n) e.0 ∙ a.1 }
+pub page_searched : (s : List ℕ) (n : ℕ) (r : Option ℕ) →
+    MatchOption r ((k : ℕ) → 0 ≤ k → k < slots s → holds s n k ≡ false) (λ i. (0 ≤ i) × (i < slots s) × (holds s n i ≡ true) × ((k : ℕ) → 0 ≤ k → k < i → holds s n k ≡ false)) →
+    MatchOption r ((k : ℕ) → k < slots s → holds s n k ≡ false) (λ i. Found s n i)
+page_searched s n None w = λ k h. w k (omega arith) h
+page_searched s n (Some i) w = record { within = w.1; here = w.2 }
+
+-- WHAT IS NOTED
+
+pub noted : (s t : List ℕ) (d : Directory) (n i v : ℕ) (entry : Option ℕ) → length d.entries ≡ 256 → n < 256 → entry ≡ Some i → Lists s d → Free s i → length t ≡ length s → Begun s t i n v →
+    Lists t (record { entries = set d.entries n entry; taken = d.taken })
+noted s t d n i v entry wide small is w free long b = record {
+  pages = rw is (lists_begun s t d.entries i n v long wide small free b w.pages);
+  taken = taken_begun s t i n v d.taken long b w.taken;
+}

@@ -1,11 +1,15 @@
 -- The bytes of the store: slots of 1,003 bytes, at most 60: a mark (1 if a page is there), the page's number, its version, and a thousand letters row by row, 0 where none is known. Assumes nothing: these are definitions.
-use Rattle.std.specs.Prelude.{◌≡◌, ℕ, zero, suc, ◌+◌, ◌*◌, ◌/◌, ◌<◌, Bool, true, false, cond, not, ◌&&◌, ◌||◌, List, length, ◌==◌, nat_le, nat_lt, slice_index}
+use Rattle.std.specs.Prelude.{◌≡◌, ℕ, zero, suc, ◌+◌, ◌*◌, ◌/◌, ◌<◌, Bool, true, false, cond, not, ◌&&◌, ◌||◌, List, length, take, drop, ◌==◌, nat_le, nat_lt, slice_index}
 use Rattle.coding.specs.Parity.{is_letter}
 use Rattle.store.specs.Page.{Page, Pages, no_page}
 
 -- how many whole slots there are
 abbrev pub slots : List ℕ → ℕ
 slots s = length s / 1003
+
+-- the bytes of slot i, fewer in a last one that is cut
+abbrev pub slot_bytes : List ℕ → ℕ → List ℕ
+slot_bytes s i = take 1003 (drop (1003 * i) s)
 
 -- the mark, the page's number, the version and the letters of slot i
 abbrev pub mark_at : List ℕ → ℕ → ℕ

@@ -2,4 +2,5 @@ pub mod Page
 pub mod Layout
 pub mod Slots
 pub mod Directory
+pub mod Kept
 pub mod Writes

@@ -50,12 +50,11 @@ pub record Claimed (s s₁ : List ℕ) (n v i : ℕ) : Type 0 where
   pub was : (holds s n i ≡ true) ⊎ LowestFree s n i
   pub only : OnlySlot s s₁ i
 
--- the first n letters of a line were merged from a place on, and no other byte changed
-pub record Merged (s l s₁ : List ℕ) (at n : ℕ) : Type 0 where
-  pub inside : (c : ℕ) → c < n → slice_index s₁ (at + c) ≡ merge (decode_letter (slice_index l (6 + c))) (slice_index s (at + c))
-  pub outside : (k : ℕ) → (k < at) ⊎ (at + n ≤ k) → slice_index s₁ k ≡ slice_index s k
-
--- n letters of a line were, from byte k of it on
+-- n letters of a line, from byte k of it on, were merged from a place of the store on, and no other byte changed
 pub record MergedFrom (s l s₁ : List ℕ) (at k n : ℕ) : Type 0 where
   pub inside : (c : ℕ) → c < n → slice_index s₁ (at + c) ≡ merge (decode_letter (slice_index l (k + c))) (slice_index s (at + c))
   pub outside : (j : ℕ) → (j < at) ⊎ (at + n ≤ j) → slice_index s₁ j ≡ slice_index s j
+
+-- the first n letters of a line were
+abbrev pub Merged : (s l s₁ : List ℕ) (at n : ℕ) → Type 0
+Merged s l s₁ at n = MergedFrom s l s₁ at 6 n

@@ -2,37 +2,25 @@
 ghost use Rattle.std.specs.Prelude.{◌≡◌, ◌+◌, ◌≤◌, true, length, MatchOption};
 ghost use Rattle.line.specs.Reading.{fragment, HeaderOf};
 ghost use Rattle.store.specs.Layout.{well_formed};
-ghost use Rattle.store.specs.Directory.{Lists};
 ghost use Rattle.store.specs.Slots.{NoRoom, Applied};
 ghost use Rattle.store.specs.Writes.{Merged, MergedFrom};
 
-use crate::directory::Directory;
-use crate::lanes::{merged8, merged16};
-use crate::layout::{LETTERS_AT, SLOT_SIZE};
+use crate::index::SlotIndex;
+use crate::lanes::merged;
+use crate::layout::row_start;
 use crate::slots::claim_slot;
-use line::{COLUMNS, Header, Line};
+use line::{Header, Line};
 use std::simd::prelude::*;
 
-// Sixteen letters of a line, from byte `from` of it on, over what stands in the store from `at` on.
-fn merge16(store: &mut [u8], at: usize, line: &[u8], from: usize)
-    requires store { at + 16 ≤ length store.old }
-    requires line { from + 16 ≤ length line.now }
-    ensures { MergedFrom store.old line.now store.new at from 16 }
+// N letters of a line, from byte `from` of it on, over what stands in the store from `at` on.
+fn merge<const N: usize>(store: &mut [u8], at: usize, line: &[u8], from: usize)
+    requires store { at + N ≤ length store.old }
+    requires line { from + N ≤ length line.now }
+    ensures { MergedFrom store.old line.now store.new at from N }
 {
-    let came = u8x16::from_slice(&line[from..from + 16]);
-    let old = u8x16::from_slice(&store[at..at + 16]);
-    merged16(came, old).copy_to_slice(&mut store[at..at + 16]);
-}
-
-// Eight letters.
-fn merge8(store: &mut [u8], at: usize, line: &[u8], from: usize)
-    requires store { at + 8 ≤ length store.old }
-    requires line { from + 8 ≤ length line.now }
-    ensures { MergedFrom store.old line.now store.new at from 8 }
-{
-    let came = u8x8::from_slice(&line[from..from + 8]);
-    let old = u8x8::from_slice(&store[at..at + 8]);
-    merged8(came, old).copy_to_slice(&mut store[at..at + 8]);
+    let came = Simd::from_slice(&line[from..from + N]);
+    let old = Simd::from_slice(&store[at..at + N]);
+    merged::<N>(came, old).copy_to_slice(&mut store[at..at + N]);
 }
 
 // The letters of one row of the store, borrowed while a line is merged into them.
@@ -43,30 +31,17 @@ struct RowLetters<'a> {
 }
 
 impl RowLetters<'_> {
-    // The sixteen letters of a line from a column on.
-    fn put16(&mut self, column: usize, line: &[u8])
-        requires row { self.old.start + column + 16 ≤ length self.old.store.now }
-        requires line { 6 + column + 16 ≤ length line.now }
-        ensures after { MergedFrom self.old.store.now line.now self.new.store.now (self.old.start + column) (6 + column) 16 }
+    // N letters of a line from a column on.
+    fn put<const N: usize>(&mut self, column: usize, line: &[u8])
+        requires row { self.old.start + column + N ≤ length self.old.store.now }
+        requires line { 6 + column + N ≤ length line.now }
+        ensures after { MergedFrom self.old.store.now line.now self.new.store.now (self.old.start + column) (6 + column) N }
         ensures long { length self.new.store.now ≡ length self.old.store.now }
         ensures start { self.new.start ≡ self.old.start }
         ensures named { self.new.store.ghost_name ≡ self.old.store.ghost_name }
     {
         let at = self.start + column;
-        merge16(self.store, at, line, Line::NUMBERS + column);
-    }
-
-    // The eight.
-    fn put8(&mut self, column: usize, line: &[u8])
-        requires row { self.old.start + column + 8 ≤ length self.old.store.now }
-        requires line { 6 + column + 8 ≤ length line.now }
-        ensures after { MergedFrom self.old.store.now line.now self.new.store.now (self.old.start + column) (6 + column) 8 }
-        ensures long { length self.new.store.now ≡ length self.old.store.now }
-        ensures start { self.new.start ≡ self.old.start }
-        ensures named { self.new.store.ghost_name ≡ self.old.store.ghost_name }
-    {
-        let at = self.start + column;
-        merge8(self.store, at, line, Line::NUMBERS + column);
+        merge::<N>(self.store, at, line, Line::NUMBERS + column);
     }
 
     // The forty letters of a line.
@@ -77,9 +52,9 @@ impl RowLetters<'_> {
         ensures long { length self.new.store.now ≡ length self.old.store.now }
         ensures named { self.new.store.ghost_name ≡ self.old.store.ghost_name }
     {
-        self.put16(0, line);
-        self.put16(16, line);
-        self.put8(32, line);
+        self.put::<16>(0, line);
+        self.put::<16>(16, line);
+        self.put::<8>(32, line);
     }
 }
 
@@ -93,39 +68,21 @@ fn merge_line(store: &mut [u8], start: usize, line: &[u8])
     row.put_line(line);
 }
 
-// Applies a line that was made out to a store that was checked: its page's slot, or none if there is no room.
-pub fn apply_line(store: &mut [u8], header: Header, line: &[u8]) -> Option<usize>
-    requires formed { well_formed store.old ≡ true }
-    requires header { HeaderOf line.now header }
-    ensures { MatchOption result (NoRoom store.old header.page × (store.new ≡ store.old)) (λ _. Applied (fragment line.now) store.old store.new) }
-{
-    let slot = claim_slot(store, header.page, header.version)?;
-    merge_line(
-        store,
-        SLOT_SIZE * slot + LETTERS_AT + COLUMNS * header.row as usize,
-        line,
-    );
-    Some(slot)
-}
-
-// The same in a store whose pages are listed, without a search; they are listed then too.
-pub fn apply_listed(
+// Applies a line that was made out to a store that was checked, by an index that agrees with it, and still does then: its page's slot, or none if there is no room.
+pub fn apply_line<I: SlotIndex>(
     store: &mut [u8],
-    directory: &mut Directory,
+    index: &mut I,
     header: Header,
     line: &[u8],
 ) -> Option<usize>
     requires formed { well_formed store.old ≡ true }
-    requires lists { Lists store.old directory.old }
+    requires agrees { I.agrees store.old index.old }
     requires header { HeaderOf line.now header }
     ensures applied { MatchOption result (NoRoom store.old header.page × (store.new ≡ store.old)) (λ _. Applied (fragment line.now) store.old store.new) }
-    ensures lists { Lists store.new directory.new }
+    ensures agrees { I.agrees store.new index.new }
 {
-    let slot = directory.claim_slot(store, header.page, header.version)?;
-    merge_line(
-        store,
-        SLOT_SIZE * slot + LETTERS_AT + COLUMNS * header.row as usize,
-        line,
-    );
+    let slot = claim_slot(store, index, header.page, header.version)?;
+    let start = row_start(slot, usize::from(header.row));
+    merge_line(store, start, line);
     Some(slot)
 }

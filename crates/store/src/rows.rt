@@ -5,23 +5,17 @@ ghost use Rattle.store.specs.Slots.{has_row, RowPlace, RowOf, VersionOf};
 ghost use Rattle.store.specs.Writes.{Found};
 
 use crate::check::read_directory;
-use crate::layout::{LETTERS_AT, SLOT_SIZE};
+use crate::index::SlotIndex;
+use crate::layout::{row_start, version_in};
 use line::{COLUMNS, ROWS};
-
-// The greatest number that a page may have.
-const LAST_PAGE: u64 = 255;
 
 // The slot that holds a page; none if the page isn't there, or the store isn't as it should be.
 fn slot_of(store: &[u8], page: u64) -> Option<usize>
     ensures { MatchOption result ((well_formed store.now && (page_in store.now page).there) ≡ false) (λ i. (well_formed store.now ≡ true) × Found store.now page i) }
 {
-    if page > LAST_PAGE {
-        return None;
-    }
-    let Ok(directory) = read_directory(store) else {
-        return None;
-    };
-    directory.find(page as u8)
+    let page = u8::try_from(page).ok()?;
+    let directory = read_directory(store).ok()?;
+    directory.find(store, page)
 }
 
 // Where a row begins in the store; none if the page isn't there, there is no such row, or the store isn't as it should be.
@@ -31,10 +25,8 @@ pub fn row_place(store: &[u8], page: u64, at: u64) -> Option<usize>
     if at >= ROWS as u64 {
         return None;
     }
-    match slot_of(store, page) {
-        Some(slot) => Some(SLOT_SIZE * slot + LETTERS_AT + COLUMNS * at as usize),
-        None => None,
-    }
+    let slot = slot_of(store, page)?;
+    Some(row_start(slot, at as usize))
 }
 
 // The forty letters of a row, 0 where none is known; nothing if the page isn't there, there is no such row, or the store isn't as it should be.
@@ -51,8 +43,6 @@ pub fn row<'a>(store: &'a [u8], page: u64, at: u64) -> &'a [u8]
 pub fn version(store: &[u8], page: u64) -> Option<u8>
     ensures { MatchOption result ((well_formed store.now && (page_in store.now page).there) ≡ false) (λ v. VersionOf store.now page v) }
 {
-    match slot_of(store, page) {
-        Some(slot) => Some(store[SLOT_SIZE * slot + 2]),
-        None => None,
-    }
+    let slot = slot_of(store, page)?;
+    Some(version_in(store, slot))
 }

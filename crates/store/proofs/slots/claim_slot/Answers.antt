@@ -1,24 +1,30 @@
-use Rattle.store.proofs.Formed.{no_other}
+use Rattle.std.proofs.Common.{sym, ◌∙◌, arith}
+use Rattle.store.proofs.Formed.{formed, no_other}
 use Rattle.store.proofs.Writing.{begun_formed}
+use Rattle.store.proofs.Listing.{same_begun}
 use Rattle.store.proofs.Applying.{claimed_kept, claimed_anew, claimed_free}
 use Rattle.store.proofs.slots.claim_slot.Goals as goal
 
-pub returns-then-store-slot : goal.returns-then-store-slot
-returns-then-store-slot c =
+pub returns-then-version_in-version : goal.returns-then-version_in-version
+returns-then-version_in-version g c =
     let w = c.in-Some.ensures in
+    let b = c.begin.ensures in
     record {
-      slot = claimed_anew _ _ _ _ _ c.requires w c.if-store-slot.true c.begin.ensures;
-      formed = begun_formed _ _ _ _ _ c.requires w.within c.begin.auto.store (no_other _ _ _ c.requires w.within w.here) c.begin.ensures;
+      slot = claimed_anew _ _ _ _ _ c.requires.formed w (λ e. c.if-version_in-version.true (c.version_in.ensures ∙ e)) b;
+      formed = begun_formed _ _ _ _ _ c.requires.formed w.within c.begin.auto.store (no_other _ _ _ c.requires.formed w.within w.here) b;
+      agrees = g.met.I.SlotIndex.kept _ _ _ (same_begun _ _ _ _ _ c.begin.auto.store w.here b) c.requires.agrees;
     }
 
-pub returns-else-store-slot : goal.returns-else-store-slot
-returns-else-store-slot c = record { slot = claimed_kept _ _ _ _ c.requires c.in-Some.ensures c.if-store-slot.false; formed = c.requires }
+pub returns-else-version_in-version : goal.returns-else-version_in-version
+returns-else-version_in-version g c = record { slot = claimed_kept _ _ _ _ c.requires.formed c.in-Some.ensures (sym c.version_in.ensures ∙ c.if-version_in-version.false); formed = c.requires.formed; agrees = c.requires.agrees }
 
 pub returns : goal.returns
-returns c =
+returns g c =
     let absent = c.in_default.ensures in
-    let w = c.in_ok-slot.ensures in
+    let free = c.in_ok-slot.ensures.slot in
+    let b = c.begin-2.ensures in
     record {
-      slot = claimed_free _ _ _ _ _ absent w c.begin-2.ensures;
-      formed = begun_formed _ _ _ _ _ c.requires w.within c.begin-2.auto.store (λ j hj ne. absent j hj) c.begin-2.ensures;
+      slot = claimed_free _ _ _ _ _ absent free b;
+      formed = begun_formed _ _ _ _ _ c.requires.formed free.within c.begin-2.auto.store (λ j hj ne. absent j hj) b;
+      agrees = c.note.ensures _ _ _ c.in_ok-slot.ensures.agrees (omega (arith, free.within, (formed c.args.store.now c.requires.formed).few)) free c.begin-2.auto.store b;
     }

@@ -1,7 +1,0 @@
-use Rattle.std.proofs.Common.{w8}
-use Rattle.std.proofs.lemmas.Simd.{below_from_Fits}
-use Rattle.store.proofs.LaneBytes.{lanes_of}
-use Rattle.store.proofs.lanes.merged8.Goals as goal
-
-pub returns : goal.returns
-returns c = lanes_of 8 c.args.came c.args.old c.fits-came.0 (below_from_Fits w8 _ c.fits-came.1)
