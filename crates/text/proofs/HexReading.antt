@@ -1,9 +1,10 @@
 -- Reading a line in hex: the digits' table, and one step of the reader. Assumes nothing.
-use Rattle.std.proofs.Common.{◌≡◌, ℕ, ◌+◌, ◌*◌, ◌<◌, ◌≤◌, false, ◌&&◌, ltb, ◌⊎◌, List, [], ◌∷◌, ◌++◌, map, length, get_or, drop, Some, None, Option, sym, refl, ap, ◌∙◌, ⊎_elim, append_assoc, append-nil, add_assoc, zero-add, arith}
+use Rattle.std.proofs.Common.{◌≡◌, ℕ, ◌+◌, ◌*◌, ◌<◌, ◌≤◌, false, ◌&&◌, ltb, ◌⊎◌, List, [], ◌∷◌, ◌++◌, map, length, get_or, drop, Some, None, Option, MatchOption, sym, refl, ap, ◌∙◌, ⊎_elim, append_assoc, append-nil, add_assoc, zero-add, arith}
 use Rattle.std.specs.List.{range_with_len}
+use Rattle.std.specs.Bool.{then_some}
 use Rattle.std.specs.Option.{option_map}
 use Rattle.std.proofs.lemmas.List.FromFn.{get_or-map-range_with_len}
-use Rattle.std.proofs.lemmas.List.{drop_more, drop_all, get_or_past}
+use Rattle.std.proofs.lemmas.List.{nil_from_length}
 use Rattle.std.proofs.lemmas.Bool.{eq-eqb, ne_eqb, cond-true, cond-false, and_left, and_right, and_from, lt-ltb, le-ltb, cases_lt}
 use Rattle.text.specs.Hex.{blank, between, digit_value, byte_of, in_front, hex_bytes}
 
@@ -14,6 +15,16 @@ table = map digit_value (range_with_len 0 256)
 pub table_at : (c : ℕ) → c < 256 → get_or table c 0 ≡ digit_value c
 unfolding table
 table_at c h = get_or-map-range_with_len digit_value 0 256 c c 0 h (zero-add c)
+
+-- what the table says of a byte: a value below 16 is a digit's, and any other is none
+pub digit_there : (c i : ℕ) (o : Option ℕ) → c < 256 → i ≡ c → o ≡ then_some (ltb (get_or table i 0) 16) (get_or table i 0) → MatchOption o (16 ≤ digit_value c) (λ value. (value ≡ digit_value c) × (value < 16))
+digit_there c i o low at e =
+    let is : get_or table i 0 ≡ digit_value c = rw at (table_at c low) in
+    let found : o ≡ then_some (ltb (digit_value c) 16) (digit_value c) = e ∙ ap (λ v. then_some (ltb v 16) v) is in
+    ⊎_elim
+    (λ digit. rw (found ∙ ap (λ b. then_some b (digit_value c)) (lt-ltb (digit_value c) 16 digit)) (refl, digit))
+    (λ other. rw (found ∙ ap (λ b. then_some b (digit_value c)) (le-ltb (digit_value c) 16 other)) other)
+    (cases_lt (digit_value c) 16)
 
 -- bytes in front of those that the rest spells, if it spells any
 abbrev pub after : List ℕ → Option (List ℕ) → Option (List ℕ)
@@ -40,55 +51,38 @@ pub front_byte : (c d : ℕ) (t : List ℕ) → (c ≡ blank → ⊥) → hex_by
 unfolding hex_bytes
 front_byte c d t ne = cond-false _ _ _ (ne_eqb _ _ ne)
 
-pub at_end : (t : List ℕ) (i : ℕ) → length t ≤ i → hex_bytes (drop i t) ≡ Some []
-unfolding hex_bytes
-at_end t i h = ap hex_bytes (drop_all i t h)
+-- a line, of which some bytes were read and some codes are left
+module _ (line read left : List ℕ) (so_far : hex_bytes line ≡ after read (hex_bytes left)) where
+  -- none are left
+  pub all_read : length left ≡ 0 → hex_bytes line ≡ Some read
+  unfolding hex_bytes
+  all_read none = so_far ∙ ap (λ l. after read (hex_bytes l)) (nil_from_length left none) ∙ ap Some (append-nil read)
 
-pub at_blank : (t : List ℕ) (i : ℕ) → i < length t → get_or t i 0 ≡ blank → hex_bytes (drop i t) ≡ hex_bytes (drop (i + 1) t)
-at_blank t i h e = ap hex_bytes (drop_more t i 0 h) ∙ front_blank _ _ e
+  -- a blank is the next
+  pub blank_read : (c : ℕ) (rest : List ℕ) → left ≡ c ∷ rest → c ≡ blank → hex_bytes line ≡ after read (hex_bytes rest)
+  blank_read c rest next is = so_far ∙ ap (after read) (ap hex_bytes next ∙ front_blank c rest is)
 
-two_on : (t : List ℕ) (i : ℕ) → i + 1 < length t → drop i t ≡ get_or t i 0 ∷ get_or t (i + 1) blank ∷ drop (i + 2) t
-two_on t i h =
-    let here : i < length t = omega arith in
-    drop_more t i 0 here ∙ ap (λ r. get_or t i 0 ∷ r) (drop_more t (i + 1) blank h ∙ ap (λ k. get_or t (i + 1) blank ∷ drop k t) (add_assoc i 1 1))
+  -- the line ends inside a byte
+  pub half_read : (c : ℕ) (rest : List ℕ) → left ≡ c ∷ rest → (c ≡ blank → ⊥) → length rest ≡ 0 → hex_bytes line ≡ None
+  unfolding hex_bytes
+  half_read c rest next ne end =
+      so_far ∙ ap (after read) (ap hex_bytes (next ∙ ap (λ r. c ∷ r) (nil_from_length rest end)) ∙ cond-false _ _ _ (ne_eqb _ _ ne))
 
--- a digit with a blank behind it is no byte
-half_byte : (c : ℕ) → byte_of c blank ≡ None
-unfolding byte_of digit_value between
-half_byte c = cond-false _ _ _ (and_right _ _ refl)
+  module _ (c d : ℕ) (rest behind : List ℕ) (next : left ≡ c ∷ rest) (ne : c ≡ blank → ⊥) (second : rest ≡ d ∷ behind) where
+    at_byte : hex_bytes line ≡ after read (in_front (byte_of c d) (hex_bytes behind))
+    at_byte = so_far ∙ ap (after read) (ap hex_bytes (next ∙ ap (λ r. c ∷ r) second) ∙ front_byte c d behind ne)
 
--- a line that ends inside a byte
-at_half : (t : List ℕ) (i : ℕ) → i < length t → length t ≤ i + 1 → (get_or t i 0 ≡ blank → ⊥) → hex_bytes (drop i t) ≡ in_front (byte_of (get_or t i 0) (get_or t (i + 1) blank)) (hex_bytes (drop (i + 2) t))
-unfolding hex_bytes in_front
-at_half t i h e ne =
-    ap hex_bytes (drop_more t i 0 h ∙ ap (λ r. get_or t i 0 ∷ r) (drop_all (i + 1) t e)) ∙ cond-false _ _ _ (ne_eqb _ _ ne)
-    ∙ sym (ap (λ o. in_front o (hex_bytes (drop (i + 2) t))) (ap (byte_of (get_or t i 0)) (get_or_past t (i + 1) blank e) ∙ half_byte (get_or t i 0)))
+    -- two codes that spell no byte are the next
+    pub not_read : None ≡ byte_of c d → hex_bytes line ≡ None
+    unfolding in_front
+    not_read none = at_byte ∙ ap (λ o. after read (in_front o (hex_bytes behind))) (sym none)
 
--- what is no blank begins a byte; a line that ends inside one goes on as if with a blank
-pub at_byte : (t : List ℕ) (i : ℕ) → i < length t → (get_or t i 0 ≡ blank → ⊥) → hex_bytes (drop i t) ≡ in_front (byte_of (get_or t i 0) (get_or t (i + 1) blank)) (hex_bytes (drop (i + 2) t))
-at_byte t i h ne =
-    ⊎_elim (λ more. ap hex_bytes (two_on t i more) ∙ front_byte _ _ _ ne) (λ half. at_half t i h half ne) (cases_lt (i + 1) (length t))
-
-pub all_read : (t front : List ℕ) (i : ℕ) → hex_bytes t ≡ after front (hex_bytes (drop i t)) → length t ≤ i → hex_bytes t ≡ Some front
-all_read t front i e h = e ∙ ap (after front) (at_end t i h) ∙ ap Some (append-nil front)
-
-pub not_read : (t front : List ℕ) (i low : ℕ) → hex_bytes t ≡ after front (hex_bytes (drop i t)) → i < length t → (get_or t i 0 ≡ blank → ⊥) → low ≡ get_or t (i + 1) blank → None ≡ byte_of (get_or t i 0) low → hex_bytes t ≡ None
-unfolding in_front
-not_read t front i low e h ne l none =
-    e ∙ ap (after front) (at_byte t i h ne ∙ ap (λ o. in_front o (hex_bytes (drop (i + 2) t))) (ap (byte_of (get_or t i 0)) (sym l) ∙ sym none))
-
-pub one_read : (t front : List ℕ) (i low b : ℕ) → hex_bytes t ≡ after front (hex_bytes (drop i t)) → i < length t → (get_or t i 0 ≡ blank → ⊥) → low ≡ get_or t (i + 1) blank → Some b ≡ byte_of (get_or t i 0) low → hex_bytes t ≡ after (front ++ b ∷ []) (hex_bytes (drop (i + 2) t))
-one_read t front i low b e h ne l some =
-    e ∙ ap (after front) (at_byte t i h ne ∙ ap (λ o. in_front o (hex_bytes (drop (i + 2) t))) (ap (byte_of (get_or t i 0)) (sym l) ∙ sym some))
-    ∙ after_push front b (hex_bytes (drop (i + 2) t))
-
--- two digits in hand stand for a byte within the line
-pub whole_byte : (t : List ℕ) (i low b : ℕ) → low ≡ get_or t (i + 1) blank → Some b ≡ byte_of (get_or t i 0) low → i + 1 < length t
-whole_byte t i low b l some =
-    ⊎_elim (λ h. h)
-    (λ h. let no_byte : Some b ≡ None = some ∙ ap (byte_of (get_or t i 0)) (l ∙ get_or_past t (i + 1) blank h) ∙ half_byte (get_or t i 0) in
-    let z : ◌≡◌ {A = ℕ} 0 1 = cc in absurd (omega arith))
-    (cases_lt (i + 1) (length t))
+    -- a byte is the next
+    pub byte_read : (b : ℕ) (more : List ℕ) → Some b ≡ byte_of c d → more ≡ read ++ b ∷ [] → hex_bytes line ≡ after more (hex_bytes behind)
+    byte_read b more some pushed = rw pushed at_more
+      where
+        at_more : hex_bytes line ≡ after (read ++ b ∷ []) (hex_bytes behind)
+        at_more = at_byte ∙ ap (λ o. after read (in_front o (hex_bytes behind))) (sym some) ∙ after_push read b (hex_bytes behind)
 
 -- the byte that two digits spell, and that there is none
 pub is_byte : (high low h l : ℕ) → h ≡ digit_value high → l ≡ digit_value low → h < 16 → l < 16 → Some (16 * h + l) ≡ byte_of high low

@@ -1,10 +1,12 @@
 -- Lemmas on numbers in decimal digits: what `parse` answers, in the words of the spec.
-use Rattle.std.proofs.Common.{◌≡◌, ℕ, ◌+◌, ◌-◌, ◌*◌, ◌^◌, ◌<◌, ◌≤◌, Bool, true, false, List, [], ◌∷◌, length, get_or, Some, None, Ok, Err, Decides, fold, Result, sym, ap, ◌∙◌, ⊎_elim, arith, rules}
+use Rattle.std.proofs.Common.{◌≡◌, ℕ, ◌+◌, ◌-◌, ◌*◌, ◌^◌, ◌<◌, ◌≤◌, Bool, true, false, eqb, List, [], ◌∷◌, length, get_or, Some, None, Option, Ok, Err, Decides, fold, Result, sym, refl, ap, ◌∙◌, ⊎_elim, arith, rules}
+use Rattle.std.specs.Bool.{then_some}
+use Rattle.std.specs.Result.{result_ok}
 use Rattle.std.specs.Str.{all_ascii_digits}
 use Rattle.std.specs.Str.Parse.{ParsesUnsigned}
 use Rattle.std.proofs.lemmas.Str.Parse.{IsNumeralModel, numerals_by_fold, not_in_digits, parse_plain}
 use Rattle.std.proofs.lemmas.Result.{OkIff-at_ok, OkIff-at_err}
-use Rattle.std.proofs.lemmas.Bool.{and_parts, cases_Bool, cond-false, ltb-true, leb-true, both_ways}
+use Rattle.std.proofs.lemmas.Bool.{and_parts, cases_Bool, cond-false, eqb-true, eq-eqb, ltb-true, leb-true, both_ways}
 use Rattle.std.proofs.lemmas.Bool.Decides.{nat_tests}
 use Rattle.text.specs.Number.{digits_value, is_number_in, number_in}
 
@@ -48,37 +50,40 @@ pub record Parsed (n : ℕ) (word : List ℕ) : Type 0 where
   pub some : 0 < length word
   pub value : n ≡ digits_value word
 
-pub parsed : {E : Type 0} (n : ℕ) (word : List ℕ) (r : Result ℕ E) → ParsesUnsigned 64 10 word r → (get_or word 0 0 ≡ 43 → ⊥) → r ≡ Ok n → Parsed n word
+was_ok : {E : Type 0} (n : ℕ) (r : Result ℕ E) → Some n ≡ result_ok r → r ≡ Ok n
+was_ok n (Ok m) is = cc
+was_ok n (Err e) is = cc
+
+was_err : {E : Type 0} (r : Result ℕ E) → None ≡ result_ok r → (e : E) × (r ≡ Err e)
+was_err (Ok m) is = absurd (let z : ◌≡◌ {A = ℕ} 0 1 = cc in omega arith)
+was_err (Err e) is = (e, refl)
+
+pub parsed : {E : Type 0} (n : ℕ) (word : List ℕ) (r : Result ℕ E) → ParsesUnsigned 64 10 word r → (get_or word 0 0 ≡ 43 → ⊥) → Some n ≡ result_ok r → Parsed n word
 parsed n word r reads plain is =
-    let h = OkIff-at_ok r _ _ n (parse_plain own 64 word r reads plain) is in
+    let h = OkIff-at_ok r _ _ n (parse_plain own 64 word r reads plain) (was_ok n r is) in
     record { digits = h.0.0; some = h.0.1; value = h.1 }
 
--- a number within the limits
-pub some_at : (least greatest n : ℕ) (word : List ℕ) → Parsed n word → least ≤ n → n ≤ greatest → Some n ≡ number_in least greatest word
-some_at least greatest n word h above below =
-    let w : Written least greatest word = record { digits = h.digits; some = h.some; above = omega (arith, h.value); below = omega (arith, h.value) } in
-    ap Some h.value ∙ sym (number_there least greatest word w)
-
--- a number outside the limits
-pub none_outside : (least greatest n : ℕ) (word : List ℕ) → Parsed n word → (least ≤ n → n ≤ greatest → ⊥) → None ≡ number_in least greatest word
-none_outside least greatest n word h outside =
-    sym (number_not_there least greatest word (λ w. outside (omega (arith, h.value, w.above)) (omega (arith, h.value, w.below))))
+-- a number within the limits, and one outside
+pub chosen : (least greatest n : ℕ) (word : List ℕ) (b : Bool) (r : Option ℕ) → Parsed n word → Decides b ((least ≤ n) × (n ≤ greatest)) → r ≡ then_some b n → r ≡ number_in least greatest word
+chosen least greatest n word b r h within e =
+    ⊎_elim
+    (λ is. let at = within.0 is in
+    let w : Written least greatest word = record { digits = h.digits; some = h.some; above = omega (arith, h.value, at.0); below = omega (arith, h.value, at.1) } in
+    e ∙ ap (λ x. then_some x n) is ∙ ap Some h.value ∙ sym (number_there least greatest word w))
+    (λ is. e ∙ ap (λ x. then_some x n) is
+    ∙ sym (number_not_there least greatest word (λ w. both_ways b is (within.1 (omega (arith, h.value, w.above), omega (arith, h.value, w.below))))))
+    (cases_Bool b)
 
 -- a word that isn't parsed
-pub none_unparsed : {E : Type 0} (least greatest : ℕ) (e : E) (word : List ℕ) (r : Result ℕ E) → ParsesUnsigned 64 10 word r → (get_or word 0 0 ≡ 43 → ⊥) → greatest < 2 ^ 64 → r ≡ Err e → None ≡ number_in least greatest word
-none_unparsed least greatest e word r reads plain fits is =
+pub none_unparsed : {E : Type 0} (least greatest : ℕ) (word : List ℕ) (r : Result ℕ E) → ParsesUnsigned 64 10 word r → (get_or word 0 0 ≡ 43 → ⊥) → greatest < 2 ^ 64 → None ≡ result_ok r → None ≡ number_in least greatest word
+none_unparsed least greatest word r reads plain fits is =
+    let err = was_err r is in
     sym (number_not_there least greatest word
-    (λ w. OkIff-at_err r _ _ e (parse_plain own 64 word r reads plain) is (w.digits, w.some, omega (arith, w.below))))
+    (λ w. OkIff-at_err r _ _ err.0 (parse_plain own 64 word r reads plain) err.1 (w.digits, w.some, omega (arith, w.below))))
 
--- the test for a plus, at the bytes of a word
-pub begins_with_plus : (word bytes : List ℕ) (b : Bool) → bytes ≡ word → Decides b (get_or bytes 0 0 ≡ 43) → b ≡ true → get_or word 0 0 ≡ 43
-begins_with_plus word bytes b same h is = rw same at (h.0 is)
+-- the test for a plus
+pub plus_in_front : (word : List ℕ) (b : Bool) → b ≡ eqb (get_or word 0 0) 43 → b ≡ true → get_or word 0 0 ≡ 43
+plus_in_front word b tells is = eqb-true _ _ (sym tells ∙ is)
 
-pub begins_plainly : (word bytes : List ℕ) (b : Bool) → bytes ≡ word → Decides b (get_or bytes 0 0 ≡ 43) → b ≡ false → get_or word 0 0 ≡ 43 → ⊥
-begins_plainly word bytes b same h is plus =
-    let there : get_or bytes 0 0 ≡ 43 = rw same plus in
-    both_ways b is (h.1 there)
-
-pub front_of_none : (xs : List ℕ) → length xs ≡ 0 → get_or xs 0 0 ≡ 43 → ⊥
-front_of_none [] none plus = omega arith
-front_of_none (x ∷ xs) none plus = omega arith
+pub none_in_front : (word : List ℕ) (b : Bool) → b ≡ eqb (get_or word 0 0) 43 → b ≡ false → get_or word 0 0 ≡ 43 → ⊥
+none_in_front word b tells is plus = both_ways b is (tells ∙ eq-eqb _ _ plus)

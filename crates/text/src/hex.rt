@@ -1,7 +1,7 @@
 // Lines in hex: bytes as two digits each, with blanks between them.
-ghost use Rattle.std.specs.Prelude.{◌≡◌, ◌+◌, ◌*◌, ◌/◌, ◌<◌, ◌≤◌, true, [], ◌++◌, length, is_some, is_ok, IfOk, if◌then◌else◌, vec_capacity, string_bytes, string_len, string_capacity};
-ghost use Rattle.std.specs.Option.{unwrap_or};
+ghost use Rattle.std.specs.Prelude.{◌≡◌, ◌+◌, ◌*◌, ◌/◌, ◌<◌, ◌≤◌, true, [], ◌++◌, length, Some, None, is_ok, OnOk, OnErr, IsErrOf, IsOkUnless, MatchOption, if◌then◌else◌, vec_capacity, string_bytes, string_len, string_capacity};
 ghost use Rattle.text.specs.Hex.{digit_value, byte_of, hex_bytes, line_bytes, digit_of, hex_byte, hex_text, WrittenIsRead};
+ghost use Rattle.text.specs.declared.hex.HexError.TheVariants.{NotHex, Memory};
 
 use std::alloc::AllocError;
 
@@ -18,67 +18,76 @@ const RADIX: u8 = 16;
 // The most characters that a byte is written as: two digits and a blank.
 const WIDTH: usize = 3;
 
-// The bytes that a line of text spells, into `bytes`, whose old contents are dropped. False, and no bytes, where the
-// text isn't bytes in hex. No memory is asked for where `bytes` has room for half as many bytes as the text has.
-pub fn read_hex(text: &[u8], bytes: &mut Vec<u8>) -> Result<bool, AllocError>
-    ensures answer { IfOk result (λ spelt. spelt ≡ is_some (line_bytes text.now)) }
-    ensures spelt { bytes.new.items ≡ (if is_ok result then unwrap_or (line_bytes text.now) [] else []) }
-    ensures room { length text.now / 2 ≤ vec_capacity bytes.old → is_ok result ≡ true }
+// Why a line of text gives no bytes.
+#[derive(Clone, Copy, Debug, PartialEq, Eq)]
+pub enum HexError {
+    // It isn't bytes in hex.
+    NotHex,
+    // There is no memory for them.
+    Memory(AllocError),
+}
+
+impl From<AllocError> for HexError {
+    ghost from_gives = { λ none r. r ≡ Memory none };
+
+    fn from(none: AllocError) -> HexError {
+        HexError::Memory(none)
+    }
+}
+
+// The bytes that a line of text spells, into `bytes`, whose old contents are dropped; no bytes where there is an error.
+// No memory is asked for where `bytes` has room for half as many bytes as the text has.
+#[tactic(auto, using(crate::proofs::HexRoundTrip::written_is_read, crate::proofs::LineEnds::return_short), unfolding(crate::specs::Hex::line_bytes))]
+pub fn read_hex(text: &[u8], bytes: &mut Vec<u8>) -> Result<(), HexError>
+    ensures spelt { OnOk result (line_bytes text.now ≡ Some bytes.new.items) }
+    ensures not_hex { IsErrOf result HexError.NotHex → line_bytes text.now ≡ None }
+    ensures emptied { OnErr result (bytes.new.items ≡ []) }
+    ensures room { length text.now / 2 ≤ vec_capacity bytes.old → IsOkUnless result HexError.NotHex }
     ensures law { WrittenIsRead }
 {
     bytes.clear();
     let line = trim_return(text);
     bytes.reserve(line.len() / 2)?;
-    Ok(fill(line, bytes))
+    match fill(line, bytes) {
+        Some(()) => Ok(()),
+        None => {
+            bytes.clear();
+            Err(HexError::NotHex)
+        }
+    }
 }
 
-// Puts the bytes that a line spells into `bytes`, which is empty and has room; false, and no bytes, where it spells none.
-fn fill(line: &[u8], bytes: &mut Vec<u8>) -> bool
+// Puts the bytes that a line spells into `bytes`, which is empty and has room; none where it spells no bytes, and then
+// only some are there.
+fn fill(line: &[u8], bytes: &mut Vec<u8>) -> Option<()>
     requires empty { bytes.old.items ≡ [] }
     requires room { length line.now / 2 ≤ vec_capacity bytes.old }
-    ensures answer { result ≡ is_some (hex_bytes line.now) }
-    ensures spelt { bytes.new.items ≡ unwrap_or (hex_bytes line.now) [] }
+    ensures { MatchOption result (hex_bytes line.now ≡ None) (λ _. hex_bytes line.now ≡ Some bytes.new.items) }
 {
-    let mut i = 0;
-    while i < line.len() {
-        if line[i] == BLANK {
-            i += 1;
-            continue;
+    let mut codes = line.iter();
+    while let Some(high) = codes.next() {
+        if *high != BLANK {
+            let low = codes.next()?;
+            bytes.push_reserved(byte_of(*high, *low)?);
         }
-        // A line that ends inside a byte goes on with a blank, which is no digit.
-        let low = if i + 1 < line.len() {
-            line[i + 1]
-        } else {
-            BLANK
-        };
-        let Some(byte) = byte_of(line[i], low) else {
-            bytes.clear();
-            return false;
-        };
-        bytes.push_reserved(byte);
-        i += 2;
     }
-    true
+    Some(())
 }
 
 // The byte that two digits spell.
+#[tactic(auto, using(std::proofs::lemmas::Bool::Decides::nat_tests), unfolding(crate::specs::Hex::byte_of))]
 fn byte_of(high: u8, low: u8) -> Option<u8>
     ensures { result ≡ byte_of high low }
 {
-    let high = digit_value(high);
-    let low = digit_value(low);
-    if high < RADIX && low < RADIX {
-        Some(16 * high + low)
-    } else {
-        None
-    }
+    Some(RADIX * digit_value(high)? + digit_value(low)?)
 }
 
-// The value of a hex digit, or of what is none.
-fn digit_value(code: u8) -> u8
-    ensures { result ≡ digit_value code }
+// The value of a hex digit; none of what is no digit.
+fn digit_value(code: u8) -> Option<u8>
+    ensures { MatchOption result (16 ≤ digit_value code) (λ value. (value ≡ digit_value code) × (value < 16)) }
 {
-    DIGITS[code as usize]
+    let value = DIGITS[usize::from(code)];
+    (value < RADIX).then_some(value)
 }
 
 // Appends bytes as two lower-case digits each, one blank between two. Where there is no memory for it, the text stays
@@ -129,22 +138,22 @@ mod tests {
     #[test]
     fn lines_to_read(rt: HostRuntime) -> Result<(), Fail> {
         let mut bytes = Vec::new(rt.alloc());
-        assert!(rt; read_hex(b"02 49 15 5e 15 02 c8\r", &mut bytes)?);
+        assert_eq!(rt; read_hex(b"02 49 15 5e 15 02 c8\r", &mut bytes), Ok(()));
         assert_eq!(rt;
             bytes.as_slice(),
             [0x02, 0x49, 0x15, 0x5e, 0x15, 0x02, 0xc8].as_slice()
         );
-        assert!(rt; read_hex(b"  0249155E1502C8 ", &mut bytes)?);
+        assert_eq!(rt; read_hex(b"  0249155E1502C8 ", &mut bytes), Ok(()));
         assert_eq!(rt;
             bytes.as_slice(),
             [0x02, 0x49, 0x15, 0x5e, 0x15, 0x02, 0xc8].as_slice()
         );
-        assert!(rt; !read_hex(b"02 0g", &mut bytes)?);
+        assert_eq!(rt; read_hex(b"02 0g", &mut bytes), Err(HexError::NotHex));
         assert!(rt; bytes.is_empty());
-        assert!(rt; !read_hex(b"02 4", &mut bytes)?);
-        assert!(rt; !read_hex(b"0 2", &mut bytes)?);
-        assert!(rt; !read_hex(b"02\r\r", &mut bytes)?);
-        assert!(rt; read_hex(b"", &mut bytes)?);
+        assert_eq!(rt; read_hex(b"02 4", &mut bytes), Err(HexError::NotHex));
+        assert_eq!(rt; read_hex(b"0 2", &mut bytes), Err(HexError::NotHex));
+        assert_eq!(rt; read_hex(b"02\r\r", &mut bytes), Err(HexError::NotHex));
+        assert_eq!(rt; read_hex(b"", &mut bytes), Ok(()));
         assert!(rt; bytes.is_empty());
         Ok(())
     }

@@ -24,8 +24,5 @@ pub fn trim_newline(line: &[u8]) -> &[u8]
 fn trim_end(line: &[u8], end: u8) -> &[u8]
     ensures { result.now ≡ without_end end line.now }
 {
-    match line {
-        [front @ .., last] if *last == end => front,
-        _ => line,
-    }
+    line.strip_suffix(&[end]).unwrap_or(line)
 }

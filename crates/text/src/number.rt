@@ -1,8 +1,6 @@
 // Numbers that people write as a word: decimal digits, and nothing else.
-ghost use Rattle.std.specs.Prelude.{◌≡◌, ◌≤◌, IfSome, Decides, slice_index};
+ghost use Rattle.std.specs.Prelude.{◌≡◌, ◌≤◌, IfSome};
 ghost use Rattle.text.specs.Number.{number_in};
-
-const PLUS: u8 = b'+';
 
 // The number that a word of decimal digits writes, if it lies between two others, both included.
 pub fn read_number(word: &str, least: u64, greatest: u64) -> Option<u64>
@@ -10,24 +8,11 @@ pub fn read_number(word: &str, least: u64, greatest: u64) -> Option<u64>
     ensures bound { IfSome result (λ n. (least ≤ n) × (n ≤ greatest)) }
 {
     // `parse` takes a sign in front, which is no digit
-    if has_plus(word.as_bytes()) {
+    if word.starts_with('+') {
         return None;
     }
-    let Ok(number) = word.parse::<u64>() else {
-        return None;
-    };
-    if least <= number && number <= greatest {
-        Some(number)
-    } else {
-        None
-    }
-}
-
-// Whether a word begins with a plus.
-fn has_plus(word: &[u8]) -> bool
-    ensures { Decides result (slice_index word.now 0 ≡ 43) }
-{
-    !word.is_empty() && word[0] == PLUS
+    let number = word.parse().ok()?;
+    (least..=greatest).contains(&number).then_some(number)
 }
 
 #[cfg(test)]

@@ -10,10 +10,7 @@ pub(crate) fn reserve(text: &mut String, count: usize, width: usize) -> Result<(
     ensures len { string_len text.new ≡ string_len text.old }
     ensures cases { MatchResult result (λ _. string_len text.new + count * width ≤ string_capacity text.new) (λ _. string_capacity text.old < string_len text.old + count * width) }
 {
-    match count.checked_mul(width) {
-        Some(more) => text.reserve(more),
-        None => Err(AllocError),
-    }
+    text.reserve(count.checked_mul(width).ok_or(AllocError)?)
 }
 
 // Appends a character for which there is room.
@@ -24,5 +21,5 @@ pub(crate) fn push(text: &mut String, sign: char)
     ensures capacity { string_capacity text.old ≤ string_capacity text.new }
 {
     // There is room, so this does not fail.
-    let _ = text.push(sign);
+    text.push(sign).unwrap();
 }

@@ -16,16 +16,15 @@ const UNKNOWN: char = '·';
 const WIDTH: usize = 3;
 
 // The sign of a letter of the store: the letter itself, a block for the last letter, and a dot where no letter is known.
+#[tactic(auto, using(crate::proofs::ScreenSigns::signs_differ, std::proofs::lemmas::Bool::Decides::nat_tests), unfolding(crate::specs::Screen::sign_of, coding::specs::Parity::is_letter))]
 pub fn sign(letter: u8) -> char
     ensures value { result ≡ sign_of letter }
     ensures law { SignsDiffer }
 {
-    if letter < FIRST_PRINTED || letter > BLOCK_LETTER {
-        UNKNOWN
-    } else if letter == BLOCK_LETTER {
-        BLOCK
-    } else {
-        char::from(letter)
+    match letter {
+        BLOCK_LETTER => BLOCK,
+        FIRST_PRINTED..BLOCK_LETTER => char::from(letter),
+        _ => UNKNOWN,
     }
 }
 

@@ -1,12 +1,6 @@
-use Rattle.std.proofs.Common.{rules}
-use Rattle.text.proofs.LineEnds.{trimmed, untrimmed, untrimmed_empty}
+use Rattle.std.proofs.Common.{refl}
+use Rattle.text.proofs.LineEnds.{stripped}
 use Rattle.text.proofs.lines.trim_end.Goals as goal
 
-pub returns-in-len1-up : goal.returns-in-len1-up
-returns-in-len1-up c = search (rules, trimmed)
-
-pub returns-in_default : goal.returns-in_default
-returns-in_default c = search (rules, untrimmed_empty)
-
-pub returns-in_default-2 : goal.returns-in_default-2
-returns-in_default-2 c = search (rules, untrimmed)
+pub returns : goal.returns
+returns c = stripped c.args.end c.args.line.now c.strip_suffix.result c.args.line c.unwrap_or.result c.strip_suffix.ensures.cases refl c.unwrap_or.ensures
