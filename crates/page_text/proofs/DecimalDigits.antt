@@ -1,13 +1,15 @@
 -- The decimal digits of bytes: what is written as a number is read as that number. Assumes nothing.
-use Rattle.std.proofs.Common.{◌≡◌, ℕ, suc, ◌+◌, ◌<◌, ◌≤◌, Bool, true, false, ◌&&◌, eqb, ltb, leb, List, [], ◌∷◌, ◌++◌, length, get_or, take, drop, Some, sym, refl, ap, ◌∙◌, ⊎_elim, one-add, arith}
+use Rattle.std.proofs.Common.{◌≡◌, ℕ, suc, ◌+◌, ◌%◌, ◌<◌, ◌≤◌, Bool, true, false, ◌&&◌, eqb, ltb, leb, List, [], ◌∷◌, ◌++◌, length, get_or, take, drop, Some, sym, refl, ap, ◌∙◌, ⊎_elim, one-add, arith}
 use Rattle.std.specs.Char.{is_ascii_digit}
+use Rattle.std.specs.Fmt.{digits, decimal}
 use Rattle.std.specs.List.{prefix_len, AllByRecursion}
+use Rattle.std.proofs.ByRecursion.{All-push}
+use Rattle.std.proofs.lemmas.Fmt.{decimal_by_steps}
 use Rattle.std.proofs.lemmas.List.{take_at, drop_at}
-use Rattle.std.proofs.lemmas.Bool.{and_parts, eqb-true, leb-true, ltb-true, cond-true, cond-false, cond_both, cases_Bool}
+use Rattle.std.proofs.lemmas.Bool.{and_parts, eqb-true, leb-true, ltb-true, cond-true, cond-false, cases_Bool}
 use Rattle.coding.proofs.Below.{all_below, below_at}
 use Rattle.text.specs.Number.{digits_value}
 use Rattle.page_text.specs.Reading.{read_number}
-use Rattle.page_text.specs.Written.{decimal}
 use Rattle.page_text.proofs.LineWords.{number_found}
 
 -- what is seen of every byte's digits
@@ -17,11 +19,11 @@ digits_test n =
     && (eqb (digits_value (decimal n)) n && (ltb 0 (length (decimal n)) && (leb (length (decimal n)) 3 && (leb 48 (get_or (decimal n) 0 0) && leb (get_or (decimal n) 0 0) 57))))
 
 digits_tested : all_below 256 digits_test ≡ true
-unfolding digits_test decimal digits_value
+unfolding digits_test digits digits_value
 digits_tested = refl
 
 short_test : all_below 25 (λ n. leb (length (decimal n)) 2) ≡ true
-unfolding decimal
+unfolding digits
 short_test = refl
 
 pub row_digits : (n : ℕ) → n < 25 → length (decimal n) ≤ 2
@@ -78,8 +80,6 @@ number_written places greatest n rest h short low end =
     number_found places greatest (ds ++ rest) (omega (arith, d.some)) (omega arith) (omega arith) ∙ (λ i. Some (is i, back i))
 
 -- digits are no control codes
-pub digits_plain : (n : ℕ) → AllByRecursion (λ b. 32 ≤ b) (decimal n)
-unfolding decimal
-digits_plain n =
-    cond_both (ltb n 10) _ _ (AllByRecursion (λ b. 32 ≤ b)) (λ _. (omega arith, tt))
-    (λ _. cond_both (ltb n 100) _ _ (AllByRecursion (λ b. 32 ≤ b)) (λ _. (omega arith, (omega arith, tt))) (λ _. (omega arith, (omega arith, (omega arith, tt)))))
+pub digits_plain : (n : ℕ) → n < 256 → AllByRecursion (λ b. 32 ≤ b) (decimal n)
+digits_plain n h =
+    decimal_by_steps (λ _ ds. AllByRecursion (λ b. 32 ≤ b) ds) (λ m l. (omega arith, tt)) (λ m ds l a. All-push (λ b. 32 ≤ b) ds (48 + m % 10) a (omega arith)) n (omega arith)

@@ -1,6 +1,6 @@
 -- Lemmas on what one line says. Assumes nothing.
 use Rattle.std.proofs.Common.{◌≡◌, ℕ, ◌+◌, ◌<◌, ◌≤◌, Bool, true, false, cond, ◌&&◌, eqb, leb, List, [], ◌∷◌, length, get_or, drop, Some, None, codes, Option, sym, refl, ap, ◌∙◌, ⊎_elim, arith}
-use Rattle.std.proofs.lemmas.List.{at_drop_more, at_drop_all}
+use Rattle.std.specs.List.{list_all}
 use Rattle.std.proofs.lemmas.Bool.{cond-true, cond-false, leb-true, eq-eqb, ne_eqb, and_parts, cases_Bool}
 use Rattle.coding.specs.Parity.{is_letter}
 use Rattle.page_text.proofs.LineWords.{and_then_some, cond_some, number_bound}
@@ -42,22 +42,11 @@ module _ (l : List ℕ) where
   unfolding read_row and_then
   row_letters a ls n e f = simp (e, f)
 
--- letters, one by one
-pub letters_more : (bs : List ℕ) (i : ℕ) (r : Bool) → i < length bs → is_letter (get_or bs i 0) ≡ true → all_letters (drop i bs) ≡ r → all_letters (drop (i + 1) bs) ≡ r
+-- whether all are letters, as a test of each
+pub each_letter : (bs : List ℕ) → list_all is_letter bs ≡ all_letters bs
 unfolding all_letters
-letters_more bs i r h is e =
-    let step : all_letters (drop i bs) ≡ (is_letter (get_or bs i 0) && all_letters (drop (i + 1) bs)) = at_drop_more all_letters bs i 0 h in
-    sym (step ∙ ap (λ t. t && all_letters (drop (i + 1) bs)) is) ∙ e
-
-pub letters_stop : (bs : List ℕ) (i : ℕ) (r : Bool) → i < length bs → is_letter (get_or bs i 0) ≡ false → all_letters (drop i bs) ≡ r → false ≡ r
-unfolding all_letters
-letters_stop bs i r h isnt e =
-    let step : all_letters (drop i bs) ≡ (is_letter (get_or bs i 0) && all_letters (drop (i + 1) bs)) = at_drop_more all_letters bs i 0 h in
-    sym (step ∙ ap (λ t. t && all_letters (drop (i + 1) bs)) isnt) ∙ e
-
-pub letters_end : (bs : List ℕ) (i : ℕ) (r : Bool) → length bs ≤ i → all_letters (drop i bs) ≡ r → true ≡ r
-unfolding all_letters
-letters_end bs i r h e = let done : all_letters (drop i bs) ≡ true = at_drop_all all_letters bs i h in sym done ∙ e
+each_letter [] = refl
+each_letter (b ∷ bs) = ap (λ t. is_letter b && t) (each_letter bs)
 
 -- what a line says, by its first byte
 pub says_nothing : (l : List ℕ) → length l ≡ 0 → nothing ≡ what_says l

@@ -1,17 +1,47 @@
 -- Lemmas on the words and numbers that a line begins with. Assumes nothing.
-use Rattle.std.proofs.Common.{◌≡◌, ℕ, ◌+◌, ◌-◌, ◌*◌, ◌<◌, ◌≤◌, Bool, true, false, cond, ◌&&◌, eqb, ltb, leb, List, [], ◌∷◌, ◌++◌, length, get_or, take, drop, Some, None, Option, sym, refl, ap, ◌∙◌, ⊎_elim, arith, Bor, MatchOption}
+use Rattle.std.proofs.Common.{◌≡◌, ℕ, suc, ◌+◌, ◌*◌, ◌^◌, ◌<◌, ◌≤◌, Bool, true, false, cond, ◌&&◌, eqb, ltb, leb, List, [], ◌∷◌, ◌++◌, length, get_or, take, drop, Some, None, Ok, Err, Option, Result, sym, refl, ap, subst, ◌∙◌, ⊎_elim, one-add, arith, Bor, MatchOption}
 use Rattle.std.specs.List.{prefix_len}
 use Rattle.std.specs.Char.{is_ascii_digit}
-use Rattle.std.proofs.lemmas.List.{take_rest}
-use Rattle.std.proofs.lemmas.List.Sums.{fold_more}
+use Rattle.std.specs.Str.{IsUtf8, all_ascii_digits}
+use Rattle.std.specs.Str.Parse.{ParsesUnsigned}
+use Rattle.std.specs.Result.{OkIff, MatchResult, result_ok}
+use Rattle.std.proofs.lemmas.Fmt.{IsAscii-from_digits}
+use Rattle.std.proofs.lemmas.List.Folds.{length-prefix_len}
+use Rattle.std.proofs.lemmas.Result.{OkIff-at_ok, OkIff-at_err}
+use Rattle.std.proofs.lemmas.Str.{IsUtf8-from_ascii}
+use Rattle.std.proofs.lemmas.Str.Parse.{IsNumeralModel, parse_digits}
 use Rattle.std.proofs.lemmas.Bool.{eq-eqb, eqb-true, cases_Bool, cases_lt, cond-true, cond-false, lt-ltb, le-ltb, le-leb, lt-leb, leb-true, and_parts, and_from, and_left, and_right}
 use Rattle.text.specs.Number.{digits_value}
+use Rattle.text.proofs.Numbers.{own}
 use Rattle.page_text.specs.Reading.{after, read_number, and_then}
 
--- one digit more
-pub value_more : (ds : List ℕ) (i v : ℕ) → i < length ds → v ≡ digits_value (take i ds) → 10 * v + (get_or ds i 0 - 48) ≡ digits_value (take (i + 1) ds)
-unfolding digits_value
-value_more ds i v h e = ap (λ x. 10 * x + (get_or ds i 0 - 48)) e ∙ sym (fold_more (λ (a d : ℕ). 10 * a + (d - 48)) 0 ds i 0 h)
+-- what a result was, by its `ok`
+was_ok : {T E : Type 0} (r : Result T E) (x : T) → Some x ≡ result_ok r → r ≡ Ok x
+was_ok (Ok y) x e = cc
+was_ok (Err d) x e = let z : ◌≡◌ {A = ℕ} 0 1 = cc in absurd (omega arith)
+
+was_err : {T E : Type 0} (r : Result T E) → None ≡ result_ok r → (d : E) × (r ≡ Err d)
+was_err (Ok y) e = let z : ◌≡◌ {A = ℕ} 0 1 = cc in absurd (omega arith)
+was_err (Err d) e = (d, refl)
+
+-- bytes that are UTF-8, as text
+module _ {E : Type 0} (Q : E → Type 0) (bs : List ℕ) (r : Result (Bor (List ℕ)) E) (cases : MatchResult r (λ t. (t.now ≡ bs) × IsUtf8 bs) (λ e. (IsUtf8 bs → ⊥) × Q e)) where
+  pub utf8_is_text : IsUtf8 bs → None ≡ result_ok r → ⊥
+  utf8_is_text utf8 is = let err = was_err r is in (subst (λ x. MatchResult x (λ t. (t.now ≡ bs) × IsUtf8 bs) (λ e. (IsUtf8 bs → ⊥) × Q e)) err.1 cases).0 utf8
+
+  pub text_is : (t : Bor (List ℕ)) → Some t ≡ result_ok r → t.now ≡ bs
+  text_is t is = (subst (λ x. MatchResult x (λ t. (t.now ≡ bs) × IsUtf8 bs) (λ e. (IsUtf8 bs → ⊥) × Q e)) (was_ok r t is) cases).0
+
+-- the digits at the front of some bytes
+front_digits : (bs : List ℕ) → all_ascii_digits (take (prefix_len is_ascii_digit bs) bs) ≡ true
+front_digits [] = refl
+front_digits (b ∷ bs) =
+    ⊎_elim
+    (λ (e : is_ascii_digit b ≡ true).
+    let more : prefix_len is_ascii_digit (b ∷ bs) ≡ suc (prefix_len is_ascii_digit bs) = cond-true (is_ascii_digit b) (1 + prefix_len is_ascii_digit bs) 0 e ∙ one-add (prefix_len is_ascii_digit bs) in
+    ap (λ n. all_ascii_digits (take n (b ∷ bs))) more ∙ and_from (is_ascii_digit b) _ e (front_digits bs))
+    (λ (e : is_ascii_digit b ≡ false). ap (λ n. all_ascii_digits (take n (b ∷ bs))) (cond-false (is_ascii_digit b) (1 + prefix_len is_ascii_digit bs) 0 e))
+    (cases_Bool (is_ascii_digit b))
 
 pub after_found : (w rest : List ℕ) → after w (w ++ rest) ≡ Some rest
 unfolding after
@@ -56,20 +86,30 @@ module _ (places greatest : ℕ) (bs : List ℕ) where
   unfolding read_number
   number_great great = cond-false (ltb 0 digits && (leb digits places && leb value greatest)) (Some (value, drop digits bs)) None (and_right (ltb 0 digits) _ (and_right (leb digits places) _ (lt-leb value greatest great)))
 
-  -- the same, as the code has it
-  pub number_read : (n v : ℕ) → n ≡ digits → v ≡ digits_value (take (n - 0) bs) → (n ≡ 0 → ⊥) → n ≤ places → v ≤ greatest → read_number places greatest bs ≡ Some (v, take (length bs - n) (drop n bs))
-  number_read n v e f some few low =
-      let zero-less : n - 0 ≡ digits = omega arith in
-      let is-value : v ≡ value = f ∙ ap (λ k. digits_value (take k bs)) zero-less in
-      let rest : take (length bs - n) (drop n bs) ≡ drop digits bs = take_rest bs n ∙ ap (λ k. drop k bs) e in
-      let more : 0 < digits = ⊎_elim (λ (h : 0 < digits). h) (λ (h : digits ≤ 0). absurd (some (omega arith))) (cases_lt 0 digits) in
-      number_found more (omega arith) (omega arith) ∙ (λ i. Some (sym is-value i, sym rest i))
+  -- the same, by what `parse` makes of the digits
+  module _ (ds : List ℕ) (front : ds ≡ take digits bs) where
+    pub front_utf8 : IsUtf8 ds
+    front_utf8 = subst IsUtf8 (sym front) (IsUtf8-from_ascii (take digits bs) (IsAscii-from_digits (take digits bs) (own.to (take digits bs) (front_digits bs))))
 
-  pub number_over : (n v : ℕ) → n ≡ digits → v ≡ digits_value (take (n - 0) bs) → greatest < v → read_number places greatest bs ≡ None
-  number_over n v e f great =
-      let zero-less : n - 0 ≡ digits = omega arith in
-      let is-value : v ≡ value = f ∙ ap (λ k. digits_value (take k bs)) zero-less in
-      number_great (omega arith)
+    module _ {E : Type 0} (r : Result ℕ E) (text : List ℕ) (same : text ≡ ds) (parsed : ParsesUnsigned 8 10 text r) where
+      reads : OkIff r ((0 < length (take digits bs)) × (value < 2 ^ 8)) value
+      reads = parse_digits own 8 (take digits bs) r (subst (λ x. ParsesUnsigned 8 10 x r) (same ∙ front) parsed) (front_digits bs)
+
+      pub number_read : (v : ℕ) → Some v ≡ result_ok r → digits ≤ places → v ≤ greatest → read_number places greatest bs ≡ Some (v, drop digits bs)
+      number_read v is few low =
+          let got = OkIff-at_ok r _ _ v reads (was_ok r v is) in
+          number_found (omega (arith, got.0.0, length-prefix_len is_ascii_digit bs)) few (omega (arith, got.1)) ∙ ap (λ x. Some (x, drop digits bs)) (sym got.1)
+
+      pub number_over : (v : ℕ) → Some v ≡ result_ok r → greatest < v → read_number places greatest bs ≡ None
+      number_over v is great = number_great (omega (arith, (OkIff-at_ok r _ _ v reads (was_ok r v is)).1))
+
+      pub number_unparsed : None ≡ result_ok r → greatest < 256 → read_number places greatest bs ≡ None
+      number_unparsed is byte =
+          let err = was_err r is in
+          let wrong = OkIff-at_err r _ _ err.0 reads err.1 in
+          ⊎_elim
+          (λ (some : 0 < digits). ⊎_elim (λ (low : value < 256). absurd (wrong (omega (arith, length-prefix_len is_ascii_digit bs), low))) (λ (high : 256 ≤ value). number_great (omega arith)) (cases_lt value 256))
+          number_empty (cases_lt 0 digits)
 
 -- what a reading that gave something went through
 pub and_then_some : {A B : Type 0} (o : Option A) (f : A → Option B) (b : B) → and_then o f ≡ Some b → (a : A) × (o ≡ Some a) × (f a ≡ Some b)

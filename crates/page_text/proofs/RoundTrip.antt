@@ -1,5 +1,6 @@
 -- The text of sound pages is read as just those pages. Assumes nothing.
 use Rattle.std.proofs.Common.{◌≡◌, ℕ, zero, suc, ◌+◌, ◌-◌, ◌*◌, ◌<◌, ◌≤◌, Bool, true, false, ◌&&◌, ◌||◌, eqb, ltb, leb, List, [], ◌∷◌, ◌++◌, map, length, get_or, take, drop, set, replicate, Some, None, codes, sym, refl, ap, ◌∙◌, ⊎_elim, append_assoc, append-nil, add-zero, add-one, arith, take-add}
+use Rattle.std.specs.Fmt.{decimal}
 use Rattle.std.specs.List.{AllByRecursion}
 use Rattle.std.proofs.ByRecursion.{All-append, All-take, All-drop, All-get_or, All-weaker}
 use Rattle.std.proofs.lemmas.List.{length_push, length-take-le, length-drop, length-replicate, take_at, take_all, drop-drop, drop_at, drop-replicate, get_or_append_left, get_or-append_right, get_or-replicate, set-append_right, replicate_more, get_or_past}
@@ -10,7 +11,7 @@ use Rattle.page_text.specs.declared.Page.{Page}
 use Rattle.page_text.specs.Reading.{in_line, before_first, lines_of, all_letters, after, read_number, read_heading, read_row, padded, with_row, page_with_row, blank_page, has_page, on_last, heading, row, what_says, Reading, read_on, no_rows, at_start, pages_read, by_reading, read_lines, read_text}
 use Rattle.text.specs.Lines.{without_return}
 use Rattle.text.proofs.LineEnds.{no_return_stays}
-use Rattle.page_text.specs.Written.{decimal, ended, heading_line, row_line, rows_text, page_text, pages_text}
+use Rattle.page_text.specs.Written.{ended, heading_line, row_line, rows_text, page_text, pages_text}
 use Rattle.page_text.specs.Laws.{Distinct, Whole, WrittenIsRead}
 use Rattle.page_text.proofs.DecimalDigits.{digits_of, number_written, digits_plain, row_digits}
 use Rattle.page_text.proofs.LineItems.{heading_first, heading_end, row_letters, says_heading, says_row}
@@ -55,12 +56,12 @@ read_line k s t l rest a e =
     ∙ ap (λ o. by_reading k o (λ t. read_lines (k + 1) t (lines_of rest))) e
 
 -- a heading as it is written
-heading_plain : (n v : ℕ) → AllByRecursion Plain (heading_line n v)
+heading_plain : (n v : ℕ) → n < 256 → v < 256 → AllByRecursion Plain (heading_line n v)
 unfolding heading_line
-heading_plain n v =
+heading_plain n v hn hv =
     All-append Plain (codes "page ") (decimal n ++ (codes " version " ++ decimal v)) (omega arith, (omega arith, (omega arith, (omega arith, (omega arith, tt)))))
-    (All-append Plain (decimal n) (codes " version " ++ decimal v) (digits_plain n)
-    (All-append Plain (codes " version ") (decimal v) (omega arith, (omega arith, (omega arith, (omega arith, (omega arith, (omega arith, (omega arith, (omega arith, (omega arith, tt))))))))) (digits_plain v)))
+    (All-append Plain (decimal n) (codes " version " ++ decimal v) (digits_plain n hn)
+    (All-append Plain (codes " version ") (decimal v) (omega arith, (omega arith, (omega arith, (omega arith, (omega arith, (omega arith, (omega arith, (omega arith, (omega arith, tt))))))))) (digits_plain v hv)))
 
 heading_read : (n v : ℕ) → n < 256 → v < 256 → read_heading (heading_line n v) ≡ Some (n, v)
 unfolding heading_line
@@ -83,10 +84,10 @@ unfolding all_letters
 all_written [] a = refl
 all_written (l ∷ ls) a = and_from (is_letter l) (all_letters ls) a.0 (all_written ls a.1)
 
-row_plain : (r : ℕ) (letters : List ℕ) → AllByRecursion Letter letters → AllByRecursion Plain (row_line r letters)
+row_plain : (r : ℕ) (letters : List ℕ) → r < rows → AllByRecursion Letter letters → AllByRecursion Plain (row_line r letters)
 unfolding row_line
-row_plain r letters a =
-    All-append Plain (decimal r) (32 ∷ slice r letters) (digits_plain r) (omega arith, All-take Plain columns (drop (columns * r) letters) (All-drop Plain (columns * r) letters (All-weaker Letter Plain letter_plain letters a)))
+row_plain r letters within a =
+    All-append Plain (decimal r) (32 ∷ slice r letters) (digits_plain r (omega arith)) (omega arith, All-take Plain columns (drop (columns * r) letters) (All-drop Plain (columns * r) letters (All-weaker Letter Plain letter_plain letters a)))
 
 -- what begins with a digit is no heading
 no_heading : (l : List ℕ) → 48 ≤ get_or l 0 0 → get_or l 0 0 ≤ 57 → after (codes "page ") l ≡ None
@@ -198,7 +199,7 @@ module _ (done : List Page) (p : Page) (w : Whole p) where
       let next : k + r + 1 ≡ k + suc r = omega arith in
       ap (λ x. read_lines k (reading_at 0) (lines_of x)) (append_assoc (rows_text r p.letters) (ended line) rest)
       ∙ rows_read r k (ended line ++ rest) (omega arith)
-      ∙ read_line (k + r) (reading_at r) (reading_at (suc r)) line rest (row_plain r p.letters w.written) (ap (λ x. read_on x (reading_at r)) (row_said r p.letters within w.long w.written) ∙ row_on r within)
+      ∙ read_line (k + r) (reading_at r) (reading_at (suc r)) line rest (row_plain r p.letters within w.written) (ap (λ x. read_on x (reading_at r)) (row_said r p.letters within w.long w.written) ∙ row_on r within)
       ∙ ap (λ n. read_lines n (reading_at (suc r)) (lines_of rest)) next
 
   all_rows : so_far p rows ≡ p
@@ -228,7 +229,7 @@ module _ (done : List Page) (p : Page) (w : Whole p) where
       ∙ heading_taken p.number p.version (record { begun = done; given = given }) (blank_page p.number p.version) (done ++ blank_page p.number p.version ∷ []) (sym new) refl refl
       ∙ (λ i. Some (record { begun = done ++ no_row i ∷ []; given = no_row_given i })) in
       ap (λ x. read_lines k (record { begun = done; given = given }) (lines_of x)) (append_assoc (ended line) (rows_text rows p.letters) rest)
-      ∙ read_line k (record { begun = done; given = given }) (reading_at 0) line (rows_text rows p.letters ++ rest) (heading_plain p.number p.version) said
+      ∙ read_line k (record { begun = done; given = given }) (reading_at 0) line (rows_text rows p.letters ++ rest) (heading_plain p.number p.version w.number_fits w.version_fits) said
       ∙ rows_read rows (k + 1) rest (omega arith)
       ∙ ap (λ q. read_lines (k + 1 + rows) (record { begun = done ++ q ∷ []; given = given_so_far rows }) (lines_of rest)) all_rows
 

@@ -1,9 +1,9 @@
 -- Lemmas on the writing of page texts, part by part. Assumes nothing.
 use Rattle.std.proofs.Common.{◌≡◌, ℕ, ◌+◌, ◌-◌, ◌*◌, ◌/◌, ◌%◌, ◌<◌, ◌≤◌, true, cond, ltb, List, [], ◌∷◌, ◌++◌, take, drop, is_ok, is_err, Ok, Err, codes, Result, sym, ap, ◌∙◌, append_assoc, append-nil, add-one, arith}
-use Rattle.std.proofs.lemmas.Bool.{cond-true, cond-false, lt-ltb, le-ltb}
+use Rattle.std.specs.Fmt.{decimal}
 use Rattle.line.specs.Size.{columns}
 use Rattle.page_text.specs.Code.{Begins, Appended}
-use Rattle.page_text.specs.Written.{decimal, ended, heading_line, row_line, rows_text}
+use Rattle.page_text.specs.Written.{ended, heading_line, row_line, rows_text}
 
 -- what stood there before stands there still
 pub begins_so : {was new : List ℕ} → new ≡ was → Begins was new
@@ -24,29 +24,15 @@ pub appended_not : {E : Type 0} (r : Result (Unit {0}) E) (was new text : List �
 appended_not (Ok x) was new text e b = let z : ◌≡◌ {A = ℕ} 0 1 = cc in absurd (omega arith)
 appended_not (Err x) was new text e b = b
 
-pub one_digit : (n : ℕ) → n < 10 → (48 + n % 10) ∷ [] ≡ decimal n
-unfolding decimal
-one_digit n h = sym (cond-true (ltb n 10) _ _ (lt-ltb n 10 h))
-
-pub two_digits : (n : ℕ) → 10 ≤ n → n < 100 → (48 + n / 10 % 10) ∷ ((48 + n % 10) ∷ []) ≡ decimal n
-unfolding decimal
-two_digits n low h = sym (cond-false (ltb n 10) _ _ (le-ltb n 10 low) ∙ cond-true (ltb n 100) _ _ (lt-ltb n 100 h))
-
-pub three_digits : (n : ℕ) → 10 ≤ n → 100 ≤ n → (48 + n / 100) ∷ ((48 + n / 10 % 10) ∷ ((48 + n % 10) ∷ [])) ≡ decimal n
-unfolding decimal
-three_digits n low h = sym (cond-false (ltb n 10) _ _ (le-ltb n 10 low) ∙ cond-false (ltb n 100) _ _ (le-ltb n 100 h))
-
--- a heading and a row, appended part by part
-pub heading_appended : (n v : ℕ) (was a b c d e : List ℕ) → a ≡ was ++ codes "page " → b ≡ a ++ decimal n → c ≡ b ++ codes " version " → d ≡ c ++ decimal v → e ≡ d ++ 10 ∷ [] → e ≡ was ++ ended (heading_line n v)
+-- a heading as it is printed
+pub heading_text : (n v : ℕ) → codes "page " ++ (decimal n ++ (codes " version " ++ (decimal v ++ 10 ∷ []))) ≡ ended (heading_line n v)
 unfolding heading_line
-heading_appended n v was a b c d e f g h i j = rw (j, i, h, g, f) (simp append_assoc)
+heading_text n v = simp append_assoc
 
-pub row_appended : (r : ℕ) (letters was a b c d : List ℕ) → a ≡ was ++ decimal r → b ≡ a ++ 32 ∷ [] → c ≡ b ++ take ((columns * r + columns) - columns * r) (drop (columns * r) letters) → d ≡ c ++ 10 ∷ [] → d ≡ was ++ ended (row_line r letters)
-unfolding row_line
-row_appended r letters was a b c d f g h i =
-    let long : (columns * r + columns) - columns * r ≡ columns = omega arith in
-    rw (i, h, g, f, long) (simp append_assoc)
+-- a row, with the letters that stand in the page for it
+pub row_appended : (r : ℕ) (letters ls was a b c : List ℕ) → a ≡ was ++ (decimal r ++ codes " ") → b ≡ a ++ ls → c ≡ b ++ 10 ∷ [] → c ≡ was ++ ended (decimal r ++ (32 ∷ ls))
+row_appended r letters ls was a b c f g h = rw (h, g, f) (simp append_assoc)
 
-pub rows_more : (r : ℕ) (letters was a b : List ℕ) → a ≡ was ++ rows_text r letters → b ≡ a ++ ended (row_line r letters) → b ≡ was ++ rows_text (r + 1) letters
-unfolding rows_text
-rows_more r letters was a b f g = rw (add-one, g, f) (simp append_assoc)
+pub rows_more : (r : ℕ) (letters ls was a b : List ℕ) → a ≡ was ++ rows_text r letters → b ≡ a ++ ended (decimal r ++ (32 ∷ ls)) → ls ≡ take columns (drop (columns * r) letters) → b ≡ was ++ rows_text (r + 1) letters
+unfolding rows_text row_line
+rows_more r letters ls was a b f g e = rw (add-one, g, f, e) (simp append_assoc)

@@ -1,18 +1,18 @@
 -- What the code's own values stand for when it reads page texts. Assumes nothing: these are definitions.
-use Rattle.std.specs.Prelude.{◌≡◌, ℕ, List, ◌++◌, Some, None, Ok, Err, vec_items, Option, Result}
+use Rattle.std.specs.Prelude.{◌≡◌, ℕ, List, ◌++◌, Some, None, Ok, Err, codes, decimal, vec_items, Option, Result}
 use Rattle.page_text.specs.declared.reading.Draft.{Draft}
 use Rattle.page_text.specs.declared.items.Item.{Item}
-use Rattle.page_text.specs.declared.items.Item.TheVariants.{Pass, Heading, Row, Unreadable}
+use Rattle.page_text.specs.declared.items.Item.TheVariants.{Pass, Heading, Row}
 use Rattle.page_text.specs.declared.TextError.{TextError}
 use Rattle.page_text.specs.declared.TextError.TheVariants.{Refused, Memory}
 use Rattle.page_text.specs.Reading.{Said, nothing, heading, row, unreadable, Reading, Outcome, bad_line}
 
--- what an item says
-abbrev pub said : Item → Said
-said Pass = nothing
-said (Heading h) = heading h.page h.version
-said (Row r) = row r.number r.letters.now
-said Unreadable = unreadable
+-- what a line says, by its item: none is of a line that can't be read
+abbrev pub said : Option Item → Said
+said (Some Pass) = nothing
+said (Some (Heading h)) = heading h.page h.version
+said (Some (Row r)) = row r.number r.letters.now
+said None = unreadable
 
 -- the text read so far that a draft holds
 abbrev pub reading : Draft → Reading
@@ -28,6 +28,11 @@ Taken next before draft place (Err Memory) = reading draft ≡ reading before
 abbrev pub Tells : Outcome → TextError → Type 0
 Tells outcome (Refused k) = outcome ≡ bad_line k
 Tells outcome Memory = Unit {0}
+
+-- what is printed of an error: the number of a text that can't be read, and the place of its first line that can't, or that memory was wanting
+abbrev pub error_text : TextError → List ℕ
+error_text (Refused k) = codes "refused " ++ (decimal 3 ++ (codes ", place " ++ decimal k))
+error_text Memory = codes "no memory"
 
 -- some bytes stand as they were, with others after them
 pub record Begins (was bytes : List ℕ) : Type 0 where

@@ -1,14 +1,8 @@
 -- Page texts as they are written: a heading, and then every row of the page. Assumes nothing: these are definitions.
-use Rattle.std.specs.Prelude.{ℕ, zero, suc, ◌+◌, ◌*◌, ◌/◌, ◌%◌, cond, List, [], ◌∷◌, ◌++◌, take, drop, codes, nat_lt}
+use Rattle.std.specs.Prelude.{ℕ, zero, suc, ◌*◌, List, [], ◌∷◌, ◌++◌, take, drop, codes, decimal}
 use Rattle.std.specs.List.{flat_map}
 use Rattle.line.specs.Size.{rows, columns}
 use Rattle.page_text.specs.declared.Page.{Page}
-
--- the digits of a number below 1000, with no leading zero
-unfoldable pub decimal : ℕ → List ℕ
-decimal n =
-    cond (nat_lt n 10) ((48 + n % 10) ∷ [])
-    (cond (nat_lt n 100) ((48 + n / 10 % 10) ∷ ((48 + n % 10) ∷ [])) ((48 + n / 100) ∷ ((48 + n / 10 % 10) ∷ ((48 + n % 10) ∷ []))))
 
 -- a line with its newline
 abbrev pub ended : List ℕ → List ℕ

@@ -1,17 +1,13 @@
 // What one line of a page text says: a heading, a row, nothing, or nothing that can be read.
 ghost use Rattle.std.specs.Prelude.{◌≡◌, Some, None, MatchOption};
-ghost use Rattle.page_text.specs.Reading.{all_letters, read_heading, read_row, what_says};
+ghost use Rattle.page_text.specs.Reading.{read_heading, what_says};
 ghost use Rattle.page_text.specs.Code.{said};
 
+use super::row::{Row, read_row};
 use super::words::{after_word, read_number};
-use coding::parity::is_letter;
 
-// Pages and versions have up to three digits, rows up to two.
+// Pages and versions have up to three digits.
 const PAGE_PLACES: usize = 3;
-
-const ROW_PLACES: usize = 2;
-
-const LAST_ROW: u8 = line::ROWS as u8 - 1;
 
 const COMMENT: u8 = b'#';
 
@@ -38,59 +34,23 @@ fn read_heading(line: &[u8]) -> Option<Heading>
     })
 }
 
-// Whether every byte is a letter.
-fn are_letters(bytes: &[u8]) -> bool
-    ensures { result ≡ all_letters bytes.now }
-{
-    for b in bytes {
-        if !is_letter(*b) {
-            return false;
-        }
-    }
-    true
-}
-
-// A row: its number in the page, and the letters given for it.
-#[derive(Clone, Copy)]
-pub(super) struct Row<'a> {
-    pub(super) number: u8,
-    pub(super) letters: &'a [u8],
-}
-
-fn read_row<'a>(line: &'a [u8]) -> Option<Row<'a>>
-    ensures { MatchOption result (read_row line.now ≡ None) (λ x. read_row line.now ≡ Some (x.number, x.letters.now)) }
-{
-    let number = read_number(line, ROW_PLACES, LAST_ROW)?;
-    let letters = after_word(number.rest, b" ")?;
-    if letters.len() > line::COLUMNS || !are_letters(letters) {
-        return None;
-    }
-    Some(Row {
-        number: number.value,
-        letters,
-    })
-}
-
-// What one line says.
+// What a line that can be read says.
 #[derive(Clone, Copy)]
 pub(super) enum Item<'a> {
     Pass,
     Heading(Heading),
     Row(Row<'a>),
-    Unreadable,
 }
 
-pub(super) fn read_item<'a>(line: &'a [u8]) -> Item<'a>
+// What a line says, or none if it can't be read.
+pub(super) fn read_item<'a>(line: &'a [u8]) -> Option<Item<'a>>
     ensures { said result ≡ what_says line.now }
 {
-    if line.is_empty() || line[0] == COMMENT {
-        return Item::Pass;
+    if let [] | [COMMENT, ..] = line {
+        return Some(Item::Pass);
     }
     if let Some(heading) = read_heading(line) {
-        return Item::Heading(heading);
+        return Some(Item::Heading(heading));
     }
-    match read_row(line) {
-        Some(row) => Item::Row(row),
-        None => Item::Unreadable,
-    }
+    read_row(line).map(Item::Row)
 }

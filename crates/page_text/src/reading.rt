@@ -1,45 +1,36 @@
 // The reading of page texts, line by line, into the pages that they give.
-ghost use Rattle.std.specs.Prelude.{◌≡◌, ◌<◌, ◌≤◌, length, IfOk, MatchResult};
-ghost use Rattle.line.specs.Size.{rows, columns};
-ghost use Rattle.page_text.specs.Reading.{Said, padded, with_row, blank_page, has_page, what_says, read_on, at_start, read_text, pages_read};
+ghost use Rattle.std.specs.Prelude.{◌≡◌, IfOk, MatchResult};
+ghost use Rattle.page_text.specs.Reading.{Said, with_row, blank_page, has_page, what_says, read_on, at_start, read_text, pages_read};
 ghost use Rattle.page_text.specs.Code.{reading, Taken, Tells};
 ghost use Rattle.page_text.specs.Laws.{Sound, PagesAreSound, RefusalsAreFirst};
 
-use super::items::{Heading, Item, Row, read_item};
-use super::words::first_line;
-use super::{BLANK, PAGE_LETTERS, Page, TextError};
+use super::items::{Heading, Item, read_item};
+use super::row::Row;
+use super::{BLANK, NEWLINE, PAGE_LETTERS, Page, TextError};
+use line::{COLUMNS, ROWS};
 use std::alloc::Global;
 use text::lines::trim_return;
 
-// The letters of a whole row: those given, and then blanks.
-fn pad_row(letters: &[u8]) -> [u8; line::COLUMNS]
-    requires { length letters.now ≤ columns }
-    ensures { result ≡ padded letters.now }
-{
-    let mut row = [BLANK; line::COLUMNS];
-    row[0..letters.len()].copy_from_slice(letters);
-    row
-}
+impl Page {
+    // A page of blanks.
+    #[tactic(auto, unfolding(crate::specs::Reading::blank_page))]
+    fn blank(heading: Heading) -> Page
+        ensures { result ≡ blank_page heading.page heading.version }
+    {
+        Page {
+            number: heading.page,
+            version: heading.version,
+            letters: [BLANK; PAGE_LETTERS],
+        }
+    }
 
-fn set_row(page: &mut Page, row: usize, letters: &[u8])
-    requires within { row < rows }
-    requires short { length letters.now ≤ columns }
-    ensures number { page.new.number ≡ page.old.number }
-    ensures version { page.new.version ≡ page.old.version }
-    ensures letters { page.new.letters ≡ with_row row letters.now page.old.letters }
-{
-    let first = line::COLUMNS * row;
-    page.letters[first..first + line::COLUMNS].copy_from_slice(&pad_row(letters));
-}
-
-// A page of blanks.
-fn blank(heading: Heading) -> Page
-    ensures { result ≡ blank_page heading.page heading.version }
-{
-    Page {
-        number: heading.page,
-        version: heading.version,
-        letters: [BLANK; PAGE_LETTERS],
+    fn set_row(&mut self, row: Row<'_>)
+        ensures number { self.new.number ≡ self.old.number }
+        ensures version { self.new.version ≡ self.old.version }
+        ensures letters { self.new.letters ≡ with_row row.entry.number row.entry.letters.now self.old.letters }
+    {
+        let first = COLUMNS * usize::from(row.number);
+        self.letters[first..first + COLUMNS].copy_from_slice(&row.padded());
     }
 }
 
@@ -47,28 +38,24 @@ fn blank(heading: Heading) -> Page
 fn has_number(pages: &[Page], number: u8) -> bool
     ensures { result ≡ has_page number pages.now }
 {
-    for page in pages {
-        if page.number == number {
-            return true;
-        }
-    }
-    false
+    pages.iter().any(|page| page.number == number)
 }
 
 // The pages begun so far, and which rows of the last one were given.
 #[derive(Drop)]
 struct Draft {
     pages: Vec<Page>,
-    given: [bool; line::ROWS],
+    given: [bool; ROWS],
 }
 
 impl Draft {
+    #[tactic(auto, unfolding(crate::specs::Reading::at_start, crate::specs::Reading::no_rows))]
     fn new(heap: Global) -> Draft
         ensures { reading result ≡ at_start }
     {
         Draft {
             pages: Vec::new(heap),
-            given: [false; line::ROWS],
+            given: [false; ROWS],
         }
     }
 
@@ -78,34 +65,31 @@ impl Draft {
         if has_number(self.pages.as_slice(), heading.page) {
             return Err(TextError::Refused(place));
         }
-        self.pages.push(blank(heading))?;
-        self.given = [false; line::ROWS];
+        self.pages.push(Page::blank(heading))?;
+        self.given = [false; ROWS];
         Ok(())
     }
 
     fn put_row(&mut self, row: Row<'_>, place: usize) -> Result<(), TextError>
-        requires within { row.number < rows }
-        requires short { length row.letters.now ≤ columns }
         ensures { Taken (read_on (Said.row row.entry.number row.entry.letters.now) (reading self.old)) self.old self.new place result }
     {
-        let count = self.pages.len();
-        let index = row.number as usize;
-        if count == 0 || self.given[index] {
+        let index = usize::from(row.number);
+        if self.given[index] {
             return Err(TextError::Refused(place));
         }
+        let page = self.pages.last_mut().ok_or(TextError::Refused(place))?;
+        page.set_row(row);
         self.given[index] = true;
-        set_row(&mut self.pages[count - 1], index, row.letters);
         Ok(())
     }
 
     fn take_line(&mut self, line: &[u8], place: usize) -> Result<(), TextError>
         ensures { Taken (read_on (what_says line.now) (reading self.old)) self.old self.new place result }
     {
-        match read_item(line) {
+        match read_item(line).ok_or(TextError::Refused(place))? {
             Item::Pass => Ok(()),
             Item::Heading(heading) => self.begin_page(heading, place),
             Item::Row(row) => self.put_row(row, place),
-            Item::Unreadable => Err(TextError::Refused(place)),
         }
     }
 
@@ -124,13 +108,9 @@ pub fn read_pages(heap: Global, text: &[u8]) -> Result<Vec<Page>, TextError>
     ensures laws { (PagesAreSound) × (RefusalsAreFirst) }
 {
     let mut draft = Draft::new(heap);
-    let mut rest = text;
-    let mut place: usize = 0;
-    while !rest.is_empty() {
-        let first = first_line(rest);
-        draft.take_line(trim_return(first.line), place)?;
-        rest = first.rest;
-        place += 1;
+    // behind the last newline stands an empty line, which says nothing
+    for (place, line) in text.split(|b| *b == NEWLINE).enumerate() {
+        draft.take_line(trim_return(line), place)?;
     }
     Ok(draft.finish())
 }

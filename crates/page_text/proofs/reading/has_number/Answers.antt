@@ -1,11 +1,10 @@
-use Rattle.page_text.proofs.DraftPages.{search_more, search_found, search_end}
+use Rattle.std.proofs.Common.{eqb, ◌∙◌, rules, tests}
+use Rattle.std.proofs.lemmas.Iterator.{YieldsList-from_slice}
+use Rattle.std.proofs.lemmas.Iterator.Search.{any_from_yields_List}
+use Rattle.page_text.proofs.DraftPages.{each_number}
 use Rattle.page_text.proofs.reading.has_number.Goals as goal
 
-pub returns-then-page-number : goal.returns-then-page-number
-returns-then-page-number c = search_found c.args.number c.args.pages.now c.loop-page.page-index _ c.loop-page-test.true c.if-page-number.true c.loop-page.invariant
-
-pub loop-page-preserved : goal.loop-page-preserved
-loop-page-preserved c = search_more c.args.number c.args.pages.now c.loop-page.page-index _ c.loop-page-test.true c.if-page-number.false c.loop-page.invariant
-
 pub returns : goal.returns
-returns c = search_end c.args.number c.args.pages.now c.loop-page.page-index c.loop-page-test.false c.loop-page.invariant
+returns c =
+    let ps = c.args.pages.now in
+    any_from_yields_List (λ p. eqb p.number c.args.number) _ _ _ c.any.ensures.ran (YieldsList-from_slice ps cc) (λ x b q k. search (rules, tests)) ∙ each_number c.args.number ps

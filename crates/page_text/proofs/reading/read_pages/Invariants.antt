@@ -1,10 +1,10 @@
-use Rattle.std.proofs.Common.{◌≡◌, ◌+◌, ◌≤◌, length}
-use Rattle.page_text.specs.Reading.{lines_of, read_lines, read_text}
+use Rattle.std.proofs.Common.{◌≡◌, ℕ, drop, length}
+use Rattle.page_text.specs.Reading.{read_lines, read_text}
 use Rattle.page_text.specs.Code.{reading}
+use Rattle.page_text.proofs.TextLines.{parts}
 use Rattle.page_text.proofs.reading.read_pages.Given as goal
 
-abbrev pub invariant-loop-rest : goal.invariant-loop-rest
-invariant-loop-rest l = (read_lines l.place (reading l.draft) (lines_of l.rest) ≡ read_text l.text) × (l.place + length l.rest ≤ length l.text)
-
-abbrev pub decreases-loop-rest : goal.decreases-loop-rest
-decreases-loop-rest l = length l.rest
+abbrev pub invariant-loop-place : goal.invariant-loop-place
+invariant-loop-place l =
+    let i : ℕ = length l.yielded in
+    read_lines i (reading l.draft) (drop i (parts l.fn.text)) ≡ read_text l.fn.text

@@ -1,21 +1,23 @@
-use Rattle.std.proofs.Common.{refl, inl, inr, arith}
+use Rattle.std.proofs.Common.{◌≡◌, ◌+◌, ◌-◌, ◌<◌, suc, length, get_or, refl, inl, inr, subst, arith, rules}
+use Rattle.std.specs.Prelude.{IfSome, vec_len, vec_items}
 use Rattle.page_text.specs.Code.{reading}
-use Rattle.page_text.proofs.DraftPages.{row_refused, row_taken}
+use Rattle.page_text.proofs.DraftPages.{refused, row_refused, row_taken}
 use Rattle.page_text.proofs.reading.Draft.put_row.Goals as goal
-use Rattle.page_text.proofs.reading.Draft.put_row.Goals.{then-count-eq0-via-then-count-eq0, then-count-eq0-via-else-count-eq0+then-self-index}
 
-pub returns-then-count-eq0 : goal.returns-then-count-eq0
-returns-then-count-eq0 c =
-    let d = c.args.self.now in (
-      elim c.then-count-eq0.branch [
-        | then-count-eq0-via-then-count-eq0 w ↦ row_refused c.args.row.number c.args.row.letters.now (reading d) (inl (omega (arith, d.pages.ok.0)))
-        | then-count-eq0-via-else-count-eq0+then-self-index w ↦ row_refused c.args.row.number c.args.row.letters.now (reading d) (inr w.if-self-index.true)
-      ],
-      refl,
-      refl,
-    )
+pub returns-then-self-index : goal.returns-then-self-index
+returns-then-self-index c = (row_refused c.args.row.number c.from-index.result c.args.row.letters.now (reading c.args.self.now) c.from-index.ensures (inr c.if-self-index.true), refl, refl)
+
+pub returns-in_err-page : goal.returns-in_err-page
+returns-in_err-page c =
+    let d = c.args.self.now in
+    let none : length (vec_items d.pages) ≡ 0 = grind (arith, c.in_err-page.ensures.ok_part, c.last_mut.ensures.variant, d.pages.ok.0) in
+    refused _ d c.args.place c.from_residual.result (row_refused c.args.row.number c.from-index.result c.args.row.letters.now (reading d) c.from-index.ensures (inl none)) (grind arith)
 
 pub returns : goal.returns
 returns c =
     let d = c.args.self.now in
-    row_taken c.args.row.number c.args.row.letters.now (reading d) _ _ c.set_row.new.page (λ h. c.if-count-eq0.false (omega (arith, d.pages.ok.0))) (omega (arith, d.pages.ok.0)) c.if-self-index.false c.index_mut.ensures.value c.set_row.ensures.number c.set_row.ensures.version c.set_row.ensures.letters
+    let p = c.in_ok-page.page in
+    let is = c.in_ok-page.ensures.ok_part in
+    let at = subst (λ o. IfSome o (λ x. x.now ≡ get_or (vec_items d.pages) (vec_len d.pages - 1) x.now)) is c.last_mut.ensures.value in
+    let some : 0 < vec_len d.pages = search (rules, is, c.last_mut.ensures.variant) in
+    row_taken c.args.row.number c.from-index.result c.args.row.letters.now (reading d) c.from-index.ensures (vec_len d.pages - 1) p.now c.set_row.new.self (omega (arith, d.pages.ok.0)) c.if-self-index.false at c.set_row.ensures.number c.set_row.ensures.version c.set_row.ensures.letters

@@ -1,18 +1,17 @@
-use Rattle.std.proofs.Common.{sym, refl, ap}
-use Rattle.page_text.specs.Reading.{read_on}
-use Rattle.page_text.specs.Code.{reading}
-use Rattle.page_text.proofs.LineItems.{said_row_fits}
+use Rattle.std.proofs.Common.{◌≡◌, ◌∙◌, Some, None, ap, sym, arith}
+use Rattle.page_text.specs.Reading.{read_on, unreadable, what_says}
+use Rattle.page_text.specs.Code.{reading, said}
+use Rattle.page_text.proofs.DraftPages.{refused}
 use Rattle.page_text.proofs.reading.Draft.take_line.Goals as goal
 
-pub put_row-requires : goal.put_row-requires
-put_row-requires c =
-    let fits = said_row_fits c.args.line.now c.in-Row.row.number c.in-Row.row.letters.now (sym c.in-Row.ensures) in
-    record { within = fits.within; short = fits.short }
+pub returns-in_err-ok_or : goal.returns-in_err-ok_or
+unfolding read_on
+returns-in_err-ok_or c =
+    let says : what_says c.args.line.now ≡ unreadable = sym c.read_item.ensures ∙ ap said c.in_err-ok_or.ensures.ok_part in
+    refused _ c.args.self.now c.args.place c.from_residual.result (ap (λ s. read_on s (reading c.args.self.now)) says) (grind arith)
 
 pub returns-in-Pass : goal.returns-in-Pass
 unfolding read_on
-returns-in-Pass c = ap (λ s. read_on s (reading c.args.self.now)) (sym c.in-Pass.ensures)
-
-pub returns-in-Unreadable : goal.returns-in-Unreadable
-unfolding read_on
-returns-in-Unreadable c = (ap (λ s. read_on s (reading c.args.self.now)) (sym c.in-Unreadable.ensures), refl, refl)
+returns-in-Pass c =
+    let says : what_says c.args.line.now ≡ said (Some c.in_ok-ok_or.field-0) = sym c.read_item.ensures ∙ ap said c.in_ok-ok_or.ensures.ok_part in
+    ap (λ s. read_on s (reading c.args.self.now)) (says ∙ ap (λ x. said (Some x)) c.in-Pass.is)
