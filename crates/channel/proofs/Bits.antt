@@ -4,7 +4,7 @@ use lib.Count.{ones_in}
 use Rattle.std.proofs.lemmas.Bool.{eqb-true, ltb-true, ltb-false, cond_both}
 use Rattle.coding.proofs.Below.{all_below, below_at, below_both}
 use Rattle.channel.specs.Random.{later, drawn_below, comes_about}
-use Rattle.channel.specs.Air.{two_bits, some_bits, letter_bits, number_bits, BitsBy}
+use Rattle.channel.specs.Air.{two_bits, letter_bits, number_bits, BitsBy}
 
 one_test : all_below 8 (λ k. eqb (ones_in 8 (2 ^ k)) 1) ≡ true
 unfolding ones_in
@@ -49,7 +49,7 @@ letter_by rate s =
     let one = one_set (drawn_below 8 (later 1 s)) (drawn_low_8 (later 1 s)) in
     by_chance 1 rate s (2 ^ drawn_below 8 (later 1 s)) (omega (arith, one)) (omega (arith, one))
 
-one_or_two : (b : Bool) (p f : ℕ) → p < 8 → f < 7 → (1 ≤ ones_in 8 (some_bits b p f)) × (ones_in 8 (some_bits b p f) ≤ 2)
+one_or_two : (b : Bool) (p f : ℕ) → p < 8 → f < 7 → (1 ≤ ones_in 8 (cond b (two_bits p f) (2 ^ p))) × (ones_in 8 (cond b (two_bits p f) (2 ^ p)) ≤ 2)
 one_or_two b p f hp hf =
     cond_both b (two_bits p f) (2 ^ p) (λ x. (1 ≤ ones_in 8 x) × (ones_in 8 x ≤ 2))
     (λ _. (omega (arith, two_set p f hp hf), omega (arith, two_set p f hp hf)))

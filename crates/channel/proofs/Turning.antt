@@ -1,9 +1,12 @@
 -- Bits that are drawn for a line, and the line with these bits turned. Assumes nothing.
-use Rattle.std.proofs.Common.{◌≡◌, ℕ, zero, suc, ◌+◌, ◌-◌, ◌<◌, ◌≤◌, ◌≢◌, List, length, get_or, set, sym, ap, ◌∙◌, subst, ⊎_elim, add-zero, add-suc, arith, get_or-set_other, get_or-set_same}
+use Rattle.std.proofs.Common.{◌≡◌, ℕ, zero, suc, ◌+◌, ◌-◌, ◌<◌, ◌≤◌, List, length, get_or, set, sym, ap, ◌∙◌, subst, ⊎_elim, add-zero, add-suc, arith}
 use lib.Bits.{bit_xor, xor_self, xor_assoc, xor_zero_l, xor_zero_r}
 use lib.Count.{ones_in}
+use denote.Param.Members.{Mut, Called}
+use Rattle.std.specs.Array.{IsFromFnResultFrom}
 use Rattle.std.proofs.lemmas.Bool.{cases_lt}
 use Rattle.std.proofs.lemmas.List.{ext_get_or}
+use Rattle.std.proofs.lemmas.List.Edits.{fill_by_more}
 use Rattle.coding.specs.Hamming.{distance}
 use Rattle.line.specs.Damage.{row_line, WithinLimits}
 use Rattle.channel.specs.Random.{next_state, later}
@@ -55,14 +58,20 @@ pub turned_none : (p q : ℕ) (sent bits came : List ℕ) → length sent ≡ 46
 turned_none p q sent bits came long zp zq d t =
     ext_get_or 0 came sent t.long (λ k h. let lt : k < length sent = omega (arith, t.long) in t.bytes k lt ∙ ap (bit_xor (get_or sent k 0)) (none_at p q bits zp zq d k (omega arith)) ∙ xor_zero_r (get_or sent k 0))
 
+-- what `array::from_fn` filled in, by a closure that stays as it is and gives h of each index
+pub each_filled : {F : Type 0} (g : Mut F (ℕ × Unit {0}) ℕ) (f : F) (h : F → ℕ → ℕ) (ys : List ℕ) (i n : ℕ) → IsFromFnResultFrom g f ys i n →
+    ((p q : F) (j y : ℕ) → Called g p (j, tt) y q → (q ≡ p) × (y ≡ h p j)) → (j : ℕ) → i ≤ j → j < i + n → get_or ys j 0 ≡ h f j
+each_filled g f h ys i zero w gives j low high = absurd (omega arith)
+each_filled g f h ys i (suc n) (q, y, at, called, rest) gives j low high =
+    let first = gives f q i y called in
+    ⊎_elim (λ lt. let e : i ≡ j = omega arith in subst (λ x. get_or ys x 0 ≡ h f x) e (at.1 0 ∙ first.1))
+    (λ ge. subst (λ p. get_or ys j 0 ≡ h p j) first.0 (each_filled g q h ys (i + 1) n rest gives j ge (omega arith))) (cases_lt j (i + 1))
+
 -- one number after the other
 pub later_later : (a b s : ℕ) → later a (later b s) ≡ later (b + a) s
 later_later zero b s = ap (λ n. later n s) (sym (add-zero b))
 later_later (suc a) b s = ap next_state (later_later a b s) ∙ ap (λ n. later n s) (sym (add-suc b a))
 
--- what is set, and what stays
-pub set_keeps : (l : List ℕ) (i v k x : ℕ) → k ≢ i → get_or l k 0 ≡ x → get_or (set l i v) k 0 ≡ x
-set_keeps l i v k x ne p = rw get_or-set_other p
-
-pub set_puts : (l : List ℕ) (i v x : ℕ) → i < length l → v ≡ x → get_or (set l i v) i 0 ≡ x
-set_puts l i v x h p = rw get_or-set_same p
+-- a loop that writes f of each place, one place further
+pub filled_more : (f : ℕ → ℕ) (l : List ℕ) (i v : ℕ) → v ≡ f i → i < length l → ((k : ℕ) → k < i → get_or l k 0 ≡ f k) → (k : ℕ) → k < i + 1 → get_or (set l i v) k 0 ≡ f k
+filled_more f l i v e h before = subst (λ x. (k : ℕ) → k < i + 1 → get_or (set l i x) k 0 ≡ f k) (sym e) (fill_by_more f l i 0 h before)

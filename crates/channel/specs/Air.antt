@@ -1,5 +1,5 @@
 -- What the air does to a line: which bits are turned. Assumes nothing: these are definitions.
-use Rattle.std.specs.Prelude.{◌≡◌, ℕ, ◌+◌, ◌*◌, ◌%◌, ◌^◌, ◌<◌, ◌≤◌, Bool, cond, List, length, bit_or, bit_xor, slice_index}
+use Rattle.std.specs.Prelude.{◌≡◌, ℕ, ◌+◌, ◌*◌, ◌%◌, ◌^◌, ◌<◌, ◌≤◌, cond, List, length, bit_or, bit_xor, slice_index}
 use Rattle.std.specs.Int.Count.{ones_in}
 use Rattle.line.specs.Damage.{Kind}
 use Rattle.channel.specs.Random.{later, drawn_below, comes_about}
@@ -7,10 +7,6 @@ use Rattle.channel.specs.Random.{later, drawn_below, comes_about}
 -- a byte with two bits set: the one at a place, and another so many places further on, round the byte
 abbrev pub two_bits : (place further : ℕ) → ℕ
 two_bits place further = bit_or (2 ^ place) (2 ^ ((place + 1 + further) % 8))
-
--- a byte with the bit at a place set, or with two
-abbrev pub some_bits : (both : Bool) (place further : ℕ) → ℕ
-some_bits both place further = cond both (two_bits place further) (2 ^ place)
 
 -- the bits to turn in a letter's byte, set in a byte, as they are drawn by two numbers from a state on
 unfoldable pub letter_bits : (rate s : ℕ) → ℕ

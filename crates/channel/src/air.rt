@@ -1,12 +1,13 @@
 // Lines with bits turned at random, never more than their limits allow.
-ghost use Rattle.std.specs.Prelude.{◌≡◌, ℕ, ◌^◌, ◌<◌, ◌≤◌, slice_index};
+ghost use Rattle.std.specs.Prelude.{◌≡◌, ℕ, ◌%◌, ◌^◌, ◌<◌, ◌≤◌, slice_index};
 ghost use Rattle.coding.specs.Hamming.{distance};
 ghost use Rattle.line.specs.Damage.{row_line, WithinLimits};
 ghost use Rattle.channel.specs.Random.{later};
-ghost use Rattle.channel.specs.Air.{two_bits, some_bits, letter_bits, number_bits, Drawn, LineBy, Turned, Damaged};
+ghost use Rattle.channel.specs.Air.{letter_bits, number_bits, Drawn, LineBy, Turned, Damaged};
 
 use crate::random::Random;
 use line::Line;
+use std::array;
 
 // How often bytes are damaged, in a thousand: those of numbers, and those of letters.
 #[derive(Clone, Copy)]
@@ -24,37 +25,15 @@ const OTHER_BITS: u64 = 7;
 
 const NO_BITS: u8 = 0;
 
-// The byte with one bit set.
+// The byte with one bit set, at a place that is counted round the byte.
 fn one_bit(place: u64) -> u8
-    requires { place < 8 }
-    ensures { result ≡ 2 ^ place }
+    ensures { result ≡ 2 ^ (place % 8) }
 {
-    1 << place
-}
-
-// The byte with two bits set: one, and another so many places further on.
-fn two_bits(place: u64, further: u64) -> u8
-    requires place { place < 8 }
-    requires further { further < 7 }
-    ensures { result ≡ two_bits place further }
-{
-    one_bit(place) | one_bit((place + 1 + further) % BITS)
-}
-
-// The byte with one bit set, or with two.
-fn some_bits(both: bool, place: u64, further: u64) -> u8
-    requires place { place < 8 }
-    requires further { further < 7 }
-    ensures { result ≡ some_bits both place further }
-{
-    if both {
-        two_bits(place, further)
-    } else {
-        one_bit(place)
-    }
+    1 << (place % BITS)
 }
 
 // The bits to turn in a letter's byte: none, or one.
+#[tactic(auto, unfolding(crate::specs::Air::letter_bits))]
 fn letter_bits(rate: u64, random: &mut Random) -> u8
     ensures bits { result ≡ letter_bits rate random.old.state }
     ensures state { random.new.state ≡ later 2 random.old.state }
@@ -65,6 +44,7 @@ fn letter_bits(rate: u64, random: &mut Random) -> u8
 }
 
 // The bits to turn in a number's byte: none, one or two.
+#[tactic(auto, unfolding(crate::specs::Air::number_bits))]
 fn number_bits(rate: u64, random: &mut Random) -> u8
     ensures bits { result ≡ number_bits rate random.old.state }
     ensures state { random.new.state ≡ later 4 random.old.state }
@@ -73,42 +53,41 @@ fn number_bits(rate: u64, random: &mut Random) -> u8
     let place = random.below(BITS);
     let both = random.chance(BOTH);
     let further = random.below(OTHER_BITS);
-    if damaged {
-        some_bits(both, place, further)
-    } else {
+    if !damaged {
         NO_BITS
+    } else if both {
+        one_bit(place) | one_bit(place + 1 + further)
+    } else {
+        one_bit(place)
     }
 }
 
 // The bits to turn in each byte of a line, set in a byte, drawn at random: at most two of a number's, and at most one of a letter's.
-pub fn turned_bits(rates: &Rates, random: &mut Random) -> [u8; 46]
+pub fn turned_bits(rates: &Rates, random: &mut Random) -> [u8; Line::LENGTH]
     ensures bits { Drawn rates.now.numbers rates.now.letters random.old.state result }
     ensures state { random.new.state ≡ later 104 random.old.state }
     ensures law { LineBy row_line rates.now.numbers rates.now.letters result }
 {
-    let mut bits = [NO_BITS; 46];
-    for i in 0..Line::NUMBERS {
-        bits[i] = number_bits(rates.numbers, random);
+    let mut bits = [NO_BITS; Line::LENGTH];
+    let (numbers, letters) = bits.split_at_mut(Line::NUMBERS);
+    for number in numbers.iter_mut() {
+        *number = number_bits(rates.numbers, random);
     }
-    for c in 0..Line::LETTERS {
-        bits[Line::NUMBERS + c] = letter_bits(rates.letters, random);
+    for letter in letters.iter_mut() {
+        *letter = letter_bits(rates.letters, random);
     }
     bits
 }
 
 // A line with bits turned.
-pub fn turn_bits(line: &[u8; 46], bits: &[u8; 46]) -> [u8; 46]
+pub fn turn_bits(line: &[u8; Line::LENGTH], bits: &[u8; Line::LENGTH]) -> [u8; Line::LENGTH]
     ensures { Turned line.now bits.now result }
 {
-    let mut came = *line;
-    for k in 0..Line::LENGTH {
-        came[k] ^= bits[k];
-    }
-    came
+    array::from_fn(|k| line[k] ^ bits[k])
 }
 
 // A copy of a line as it may come: damaged at random, within the limits of a line. At rates of 0 it is the line itself; at rates of a thousand each byte is damaged.
-pub fn damage(line: &[u8; 46], rates: &Rates, random: &mut Random) -> [u8; 46]
+pub fn damage(line: &[u8; Line::LENGTH], rates: &Rates, random: &mut Random) -> [u8; Line::LENGTH]
     ensures bits { Damaged rates.now.numbers rates.now.letters random.old.state line.now result }
     ensures state { random.new.state ≡ later 104 random.old.state }
     ensures limits { WithinLimits row_line line.now result }

@@ -15,16 +15,17 @@ pub struct Random {
 
 impl Random {
     // The generator of a seed.
+    #[tactic(auto, unfolding(crate::specs::Random::seeded))]
     pub fn new(seed: u64) -> Random
         ensures { result.state ≡ seeded seed }
     {
-        let unseeded = seed == 0;
         Random {
-            state: if unseeded { NO_SEED } else { seed },
+            state: if seed == 0 { NO_SEED } else { seed },
         }
     }
 
     // The next number.
+    #[tactic(auto, unfolding(crate::specs::Random::next_state, crate::specs::Random::drawn))]
     pub fn next(&mut self) -> u64
         ensures answer { result ≡ drawn self.old.state }
         ensures state { self.new.state ≡ next_state self.old.state }
@@ -37,18 +38,14 @@ impl Random {
     }
 
     // A number below a limit; 0 if the limit is 0.
+    #[tactic(auto, unfolding(crate::specs::Random::drawn_below))]
     pub fn below(&mut self, limit: u64) -> u64
         ensures answer { result ≡ drawn_below limit self.old.state }
         ensures low { 0 < limit → result < limit }
         ensures bound { result ≤ limit }
         ensures state { self.new.state ≡ next_state self.old.state }
     {
-        let number = self.next();
-        let no_limit = limit == 0;
-        if no_limit {
-            return 0;
-        }
-        number % limit
+        self.next().checked_rem(limit).unwrap_or(0)
     }
 
     // Whether it came about, by a chance of so many in a thousand.

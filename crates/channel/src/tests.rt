@@ -5,12 +5,12 @@ use line::{Line, within_limits};
 const LINES: usize = 100;
 
 // The bytes of a line of blanks.
-fn blanks() -> [u8; 46] {
+fn blanks() -> [u8; Line::LENGTH] {
     let line = Line {
         page: 18,
         version: 3,
         row: 1,
-        letters: [b' '; 40],
+        letters: [b' '; Line::LETTERS],
     };
     line.encode()
 }
@@ -42,8 +42,8 @@ fn damages(rt: HostRuntime) {
     for _line in 0..LINES {
         let came = damage(&line, &most, &mut random);
         assert!(rt; within_limits(&line, &came));
-        for k in 0..Line::LENGTH {
-            assert_ne!(rt; came[k], line[k]);
+        for (byte, sent) in came.iter().zip(&line) {
+            assert_ne!(rt; byte, sent);
         }
     }
 }

@@ -1,5 +1,5 @@
 -- What the entries' contracts say, from the parts. Assumes nothing.
-use Rattle.std.proofs.Common.{◌≡◌, ℕ, ◌<◌, ◌≤◌, Bool, true, false, ◌&&◌, eqb, ltb, ◌⊎◌, List, [], ◌∷◌, ◌++◌, length, get_or, sym, refl, ap, ◌∙◌, subst, inl, inr, ⊎_elim, arith}
+use Rattle.std.proofs.Common.{◌≡◌, ℕ, ◌/◌, ◌%◌, ◌<◌, ◌≤◌, Bool, true, false, ◌&&◌, eqb, ltb, ◌⊎◌, List, [], ◌∷◌, ◌++◌, length, get_or, sym, refl, ap, ◌∙◌, subst, inl, inr, ⊎_elim, arith}
 use Rattle.std.proofs.lemmas.List.{get_or_past}
 use Rattle.std.proofs.lemmas.Bool.{both_ways, and_parts, and_from, lt-ltb, ltb-true, eq-eqb, eqb-true, cases_Bool, cases_eq, cases_lt}
 use Rattle.coding.specs.Hamming.{distance}
@@ -16,11 +16,12 @@ use Rattle.store.proofs.Pages.{page_held, page_there, there_slot, slot_letter}
 use Rattle.receiver.specs.Entry.{Answers, counted}
 use Rattle.receiver.specs.Broadcast.{SentLetter, Brought}
 use Rattle.receiver.specs.Runs.{Run, end, step}
+use Rattle.receiver.specs.Batch.{TakenFirst, TookLines}
 use Rattle.receiver.specs.Promises.{RunPromises, Continue, Continues, TwoTurnedLost, RowSound, RowText, RowOfRun}
 use Rattle.receiver.specs.declared.entry.Done.{Done}
 use Rattle.receiver.specs.declared.entry.Done.TheVariants.{Took, Lost, Full, Refused}
 use Rattle.receiver.specs.declared.entry.Counts.{Counts}
-use Rattle.receiver.proofs.Steps.{not_refused, formed_run, length_run}
+use Rattle.receiver.proofs.Steps.{accepted, not_refused, formed_run, length_run}
 use Rattle.receiver.proofs.Invariant.{sound_run, soundness}
 use Rattle.receiver.proofs.Recovering.{recovery, recovery_of_page}
 
@@ -41,8 +42,12 @@ run_then : (s s₁ s₂ : List ℕ) (ls ks : List (List ℕ)) (rs qs : List Done
 run_then _ _ s₂ _ ks _ qs (end s) v = v
 run_then _ _ s₂ _ ks _ qs (step s l t s₁ r ls rs a w) v = step s l t s₂ r (ls ++ ks) (rs ++ qs) a (run_then t s₁ s₂ ls ks rs qs w v)
 
-pub continue : (s s₁ : List ℕ) (ls : List (List ℕ)) (rs : List Done) → Run s ls rs s₁ → Continue ls s rs s₁
+continue : (s s₁ : List ℕ) (ls : List (List ℕ)) (rs : List Done) → Run s ls rs s₁ → Continue ls s rs s₁
 continue s s₁ ls rs v s₀ before answers ok w = run_promises s₀ s₁ (before ++ ls) (answers ++ rs) ok (run_then s₀ s s₁ before ls answers rs w v)
+
+-- lines that are not turned away, from what their loop leaves
+pub took_lines : (bytes s s₁ : List ℕ) (k k₁ : Counts) → eqb (length bytes % 46) 0 ≡ true → well_formed s ≡ true → TakenFirst bytes s k s₁ k₁ (length bytes / 46) → TookLines bytes s k s₁ k₁
+took_lines bytes s s₁ k k₁ whole ok w = record { accepted = accepted (eqb (length bytes % 46) 0) s whole ok; answers = w.answers; run = w.run; count = w.count; promises = continue _ _ _ _ w.run }
 
 pub continues : (l s : List ℕ) (r : Done) (s₁ : List ℕ) → Answers l s r s₁ → Continues l s r s₁
 continues l s r s₁ a = continue s s₁ (l ∷ []) (r ∷ []) (step s l s₁ s₁ r [] [] a (end s₁))

@@ -3,17 +3,19 @@ ghost use Rattle.std.specs.Prelude.{◌≡◌, MatchOption, MatchResult};
 ghost use Rattle.receiver.specs.Entry.{number};
 ghost use Rattle.receiver.specs.Batch.{lines_refusal, TookLines, RefusedLines, LinesRefusedAt};
 
-use crate::checked::take_each;
+use crate::checked::Checked;
 use crate::entry::Counts;
 use crate::refusal::{Refusal, accept, place};
 use line::Line;
 
 // Takes lines that are laid end to end into a lent store, and counts them: as `receive` does, one after the other. Why, if they are turned away.
+#[tactic(auto, using(crate::proofs::Calls::took_lines))]
 pub fn take_lines(lines: &[u8], store: &mut [u8], counts: &mut Counts) -> Result<(), Refusal>
     ensures { MatchResult result (λ _. TookLines lines.now store.old counts.old store.new counts.new) (λ f. RefusedLines (number f) lines.now store.old counts.old store.new counts.new) }
 {
-    let mut directory = accept(lines.len() % Line::LENGTH == 0, store)?;
-    take_each(lines, store, &mut directory, counts);
+    let directory = accept(lines.len() % Line::LENGTH == 0, store)?;
+    let mut checked = Checked { store, directory };
+    checked.take_each(lines, counts);
     Ok(())
 }
 

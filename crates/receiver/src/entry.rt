@@ -3,7 +3,7 @@ ghost use Rattle.std.specs.Prelude.{◌≡◌, MatchOption};
 ghost use Rattle.receiver.specs.Entry.{refusal, Answers, RefusedAt, counted};
 ghost use Rattle.receiver.specs.Promises.{Continues, TwoTurnedLost};
 
-use crate::checked::take_each;
+use crate::checked::Checked;
 use crate::refusal::{Refusal, accept, place};
 use line::Line;
 
@@ -45,7 +45,10 @@ pub fn take_line(line: &[u8], store: &mut [u8]) -> Done
     ensures { Answers line.now store.old result store.new }
 {
     match accept(line.len() == Line::LENGTH, store) {
-        Ok(mut directory) => take_each(line, store, &mut directory, &mut Counts::default()),
+        Ok(directory) => {
+            let mut checked = Checked { store, directory };
+            checked.take_each(line, &mut Counts::default())
+        }
         Err(refusal) => Done::Refused(refusal),
     }
 }

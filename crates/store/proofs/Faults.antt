@@ -88,9 +88,9 @@ pub bytes_tests : (s bytes : List ℕ) (table : List (Option ℕ)) (i : ℕ) (le
 bytes_tests s bytes table i lettered twice few long is lists small letters seen =
     let whole : 1003 * i + 1003 ≤ length s = omega (arith, bytes_length s bytes i is, long) in
     let number : get_or bytes 1 0 ≡ number_at s i = byte_there s bytes i 1 is (omega arith) in
-    let forty : length (take 1000 (drop 3 bytes)) ≡ 1000 = length-take-le 1000 (drop 3 bytes) (omega (arith, length-drop 3 bytes, long)) in
+    let all : length (take 1000 (drop 3 bytes)) ≡ 1000 = length-take-le 1000 (drop 3 bytes) (omega (arith, length-drop 3 bytes, long)) in
     let there : lettered ≡ letters_fine s (1003 * i + 3) 1000 =
-    letters ∙ ap (letters_fine (take 1000 (drop 3 bytes)) 0) forty
+    letters ∙ ap (letters_fine (take 1000 (drop 3 bytes)) 0) all
     ∙ letters_there s (take 1000 (drop 3 bytes)) (1003 * i + 3) 1000
     (λ k h. get_or-take 1000 (drop 3 bytes) k 0 h ∙ get_or-drop 3 bytes k 0 ∙ byte_there s bytes i (3 + k) is (omega arith) ∙ ap (λ j. get_or s j 0) (omega arith)) in
     ap (λ m. leb m 1 && (lettered && not (twice && eqb m 1))) (mark_there s bytes i is)

@@ -1,6 +1,6 @@
 -- A row as a part of the store. Assumes nothing.
-use Rattle.std.proofs.Common.{◌≡◌, ℕ, ◌+◌, ◌*◌, ◌<◌, ◌≤◌, true, false, ◌&&◌, ltb, List, [], length, get_or, take, drop, Some, None, Option, sym, refl, ap, ◌∙◌, inr, ⊎_elim, add_assoc, arith, length-drop, length-take-le, get_or-drop, get_or-take, MatchOption}
-use Rattle.std.proofs.lemmas.Bool.{and_from, and_left, and_right, and_cases, and_parts, lt-ltb, le-ltb, ltb-true, both_ways}
+use Rattle.std.proofs.Common.{◌≡◌, ℕ, ◌+◌, ◌*◌, ◌<◌, ◌≤◌, true, false, ◌&&◌, ltb, List, [], length, get_or, take, drop, Some, None, Option, sym, refl, ap, ◌∙◌, inr, add_assoc, arith, length-drop, length-take-le, get_or-drop, get_or-take, MatchOption}
+use Rattle.std.proofs.lemmas.Bool.{and_from, and_right, and_parts, lt-ltb, le-ltb, ltb-true, both_ways}
 use Rattle.store.specs.Layout.{slots, version_at, holds, well_formed, page_in}
 use Rattle.store.specs.Slots.{has_row, RowPlace, RowOf, VersionOf}
 use Rattle.store.specs.Writes.{row_start, Found}
@@ -26,9 +26,6 @@ found_in s n (Some i) ok found = (ok, found)
 
 pub no_such_row : (s : List ℕ) (n r : ℕ) → 25 ≤ r → has_row s n r ≡ false
 no_such_row s n r h = and_right (well_formed s) ((page_in s n).there && ltb r 25) (and_right (page_in s n).there (ltb r 25) (le-ltb _ _ h))
-
-pub row_not_there : (s : List ℕ) (n r : ℕ) → (well_formed s && (page_in s n).there) ≡ false → has_row s n r ≡ false
-row_not_there s n r e = ⊎_elim (λ f. and_left _ _ f) (λ f. and_right (well_formed s) _ (and_left _ (ltb r 25) f)) (and_cases (well_formed s) (page_in s n).there e)
 
 pub place_found : (s : List ℕ) (n r i : ℕ) → r < 25 → well_formed s ≡ true → Found s n i → RowPlace s n r (row_start i r)
 place_found s n r i hr ok w = record {

@@ -1,5 +1,5 @@
 -- One more byte cleared, a slot begun, and a line merged into it. Assumes nothing.
-use Rattle.std.proofs.Common.{◌≡◌, ℕ, ◌+◌, ◌-◌, ◌*◌, ◌<◌, ◌≤◌, true, false, ltb, ◌⊎◌, List, length, get_or, set, sym, refl, ap, ◌∙◌, subst, inl, inr, ⊎_elim, arith, length-set, get_or-set_other, get_or-set_same, below_more}
+use Rattle.std.proofs.Common.{◌≡◌, ℕ, ◌+◌, ◌-◌, ◌*◌, ◌<◌, ◌≤◌, true, false, ltb, ◌⊎◌, List, length, get_or, set, sym, refl, ap, ◌∙◌, subst, inl, inr, ⊎_elim, arith, get_or-set_other, get_or-set_same, below_more}
 use Rattle.std.proofs.lemmas.Bool.{cond_both, cases_lt, cases_eq}
 use Rattle.coding.specs.Parity.{decode_letter}
 use Rattle.coding.proofs.Letters.{letter_or_none}
@@ -14,25 +14,6 @@ clear_more s t at n w room = record {
   inside = below_more (λ c. get_or (set t (at + n) 0) (at + c) 0 ≡ 0) n (λ c h. get_or-set_other t (at + n) (at + c) 0 0 (omega arith) ∙ w.inside c h) (get_or-set_same t (at + n) 0 0 room);
   outside = λ k h. get_or-set_other t (at + n) k 0 0 (λ e. ⊎_elim (λ lt. omega arith) (λ le. omega arith) h) ∙ w.outside k (⊎_elim inl (λ le. inr (omega arith)) h);
 }
-
--- t as the letters are cleared; then the first three bytes are set
-pub begun_slot : (s t : List ℕ) (i n v : ℕ) → i < slots s → length t ≡ length s → Cleared s t (1003 * i + 3) 1000 → Begun s (set (set (set t (1003 * i) 1) (1003 * i + 1) n) (1003 * i + 2) v) i n v
-begun_slot s t i n v hi long w =
-    let room : 1003 * i + 2 < length t = omega (arith, long) in
-    let t₁ = set t (1003 * i) 1 in
-    let t₂ = set t₁ (1003 * i + 1) n in
-    let l₁ : length t₁ ≡ length t = length-set t (1003 * i) 1 in
-    let l₂ : length t₂ ≡ length t = length-set t₁ (1003 * i + 1) n ∙ l₁ in
-    let past : (k : ℕ) → (k ≡ 1003 * i → ⊥) → (k ≡ 1003 * i + 1 → ⊥) → (k ≡ 1003 * i + 2 → ⊥) → get_or (set t₂ (1003 * i + 2) v) k 0 ≡ get_or t k 0 =
-    λ k a b c. get_or-set_other t₂ (1003 * i + 2) k v 0 c ∙ get_or-set_other t₁ (1003 * i + 1) k n 0 b ∙ get_or-set_other t (1003 * i) k 1 0 a in
-    record {
-      mark = get_or-set_other t₂ (1003 * i + 2) (1003 * i) v 0 (omega arith) ∙ get_or-set_other t₁ (1003 * i + 1) (1003 * i) n 0 (omega arith) ∙ get_or-set_same t (1003 * i) 1 0 (omega arith);
-      number = get_or-set_other t₂ (1003 * i + 2) (1003 * i + 1) v 0 (omega arith) ∙ get_or-set_same t₁ (1003 * i + 1) n 0 (omega (arith, l₁));
-      version = get_or-set_same t₂ (1003 * i + 2) v 0 (omega (arith, l₂));
-      letters = λ k h. past (1003 * i + 3 + k) (omega arith) (omega arith) (omega arith) ∙ w.inside k h;
-      only = λ k h. past k (λ e. ⊎_elim (λ lt. omega arith) (λ le. omega arith) h) (λ e. ⊎_elim (λ lt. omega arith) (λ le. omega arith) h) (λ e. ⊎_elim (λ lt. omega arith) (λ le. omega arith) h)
-          ∙ w.outside k (⊎_elim (λ lt. inl (omega arith)) (λ le. inr (omega arith)) h);
-    }
 
 zero_fine : letter_fine 0 ≡ true
 unfolding letter_fine

@@ -17,3 +17,6 @@ pub use layout::{MOST_SLOTS, NO_LETTER, SLOT_SIZE};
 pub use merge::apply_line;
 pub use rows::{row, row_place, version};
 pub use search::Search;
+
+#[cfg(test)]
+mod tests;

@@ -12,17 +12,6 @@ use crate::slots::claim_slot;
 use line::{Header, Line};
 use std::simd::prelude::*;
 
-// N letters of a line, from byte `from` of it on, over what stands in the store from `at` on.
-fn merge<const N: usize>(store: &mut [u8], at: usize, line: &[u8], from: usize)
-    requires store { at + N ≤ length store.old }
-    requires line { from + N ≤ length line.now }
-    ensures { MergedFrom store.old line.now store.new at from N }
-{
-    let came = Simd::from_slice(&line[from..from + N]);
-    let old = Simd::from_slice(&store[at..at + N]);
-    merged::<N>(came, old).copy_to_slice(&mut store[at..at + N]);
-}
-
 // The letters of one row of the store, borrowed while a line is merged into them.
 #[derive(Drop)]
 struct RowLetters<'a> {
@@ -40,8 +29,12 @@ impl RowLetters<'_> {
         ensures start { self.new.start ≡ self.old.start }
         ensures named { self.new.store.ghost_name ≡ self.old.store.ghost_name }
     {
+        let from = Line::NUMBERS + column;
+        let came = Simd::<u8, N>::from_slice(&line[from..from + N]);
         let at = self.start + column;
-        merge::<N>(self.store, at, line, Line::NUMBERS + column);
+        let store = &mut *self.store;
+        let old = Simd::<u8, N>::from_slice(&store[at..at + N]);
+        merged(came, old).copy_to_slice(&mut store[at..at + N]);
     }
 
     // The forty letters of a line.
@@ -56,16 +49,6 @@ impl RowLetters<'_> {
         self.put::<16>(16, line);
         self.put::<8>(32, line);
     }
-}
-
-// The letters of a line over the forty bytes from `start` on.
-fn merge_line(store: &mut [u8], start: usize, line: &[u8])
-    requires row { start + 40 ≤ length store.old }
-    requires line { length line.now ≡ 46 }
-    ensures { Merged store.old line.now store.new start 40 }
-{
-    let mut row = RowLetters { store, start };
-    row.put_line(line);
 }
 
 // Applies a line that was made out to a store that was checked, by an index that agrees with it, and still does then: its page's slot, or none if there is no room.
@@ -83,6 +66,7 @@ pub fn apply_line<I: SlotIndex>(
 {
     let slot = claim_slot(store, index, header.page, header.version)?;
     let start = row_start(slot, usize::from(header.row));
-    merge_line(store, start, line);
+    let mut letters = RowLetters { store, start };
+    letters.put_line(line);
     Some(slot)
 }

@@ -1,9 +1,9 @@
-use Rattle.receiver.proofs.Calls.{continue}
-use Rattle.receiver.proofs.Steps.{accepted}
+use Rattle.std.proofs.Common.{subst, rules}
+use Rattle.receiver.specs.Batch.{TookLines}
+use Rattle.receiver.proofs.Calls.{took_lines}
 use Rattle.receiver.proofs.batch.take_lines.Goals as goal
 
 pub returns : goal.returns
 returns c =
     let a = c.in_ok-directory.ensures in
-    let w = c.take_each.ensures.taken in
-    record { accepted = accepted _ _ a.0 a.1; answers = w.answers; run = w.run; count = w.count; promises = continue _ _ _ _ w.run }
+    subst (λ s. TookLines c.args.lines.now c.args.store.now c.args.counts.now s c.take_each.new.counts) (search rules) (took_lines _ _ _ _ _ a.0 a.1 c.take_each.ensures.taken)

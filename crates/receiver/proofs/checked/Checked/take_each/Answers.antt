@@ -2,9 +2,8 @@ use Rattle.std.proofs.Common.{◌≡◌, ◌*◌, ◌-◌, ◌/◌, ◌<◌, len
 use Rattle.std.proofs.lemmas.List.{length_push, length-drop}
 use Rattle.receiver.specs.Entry.{Answers}
 use Rattle.receiver.specs.Batch.{TakenFirst}
-use Rattle.receiver.proofs.Steps.{stepped, still_formed}
 use Rattle.receiver.proofs.Batches.{taken_none, taken_more, cut_more, one_line}
-use Rattle.receiver.proofs.checked.take_each.Goals as goal
+use Rattle.receiver.proofs.checked.Checked.take_each.Goals as goal
 
 pub loop-line-init : goal.loop-line-init
 loop-line-init c = record {
@@ -12,8 +11,7 @@ loop-line-init c = record {
   within = search rules;
   size = search rules;
   rest = search rules;
-  formed = c.requires.formed;
-  lists = c.requires.lists;
+  named = refl;
   first = λ _. refl;
   single = λ _ one. absurd (omega (arith, one));
 }
@@ -21,7 +19,7 @@ loop-line-init c = record {
 pub loop-line-preserved : goal.loop-line-preserved
 loop-line-preserved c =
     let w = c.loop-line.invariant in
-    let a = c.take_one-done.ensures in
+    let a = c.take-done.ensures in
     let step = c.in-Some.ensures.steps in
     let n = length c.loop-line.yielded in
     let more = length_push c.loop-line.yielded c.in-Some.line in
@@ -31,13 +29,12 @@ loop-line-preserved c =
       within = rw more cut.2;
       size = step.0 ∙ w.size;
       rest = rw more cut.1;
-      formed = still_formed (stepped _ _ _ _ w.formed a.answer) w.formed;
-      lists = a.lists;
+      named = a.named ∙ w.named;
       first = λ none. absurd (omega (arith, none, more));
       single = λ long one.
           let none : n ≡ 0 = omega (arith, one, more) in
-          subst (λ s. Answers c.args.lines.now s c.take_one-done.result c.take_one-done.new.store) (w.first none)
-          (subst (λ l. Answers l c.loop-line.store c.take_one-done.result c.take_one-done.new.store) (cut.0 ∙ one_line c.args.lines.now n long none) a.answer);
+          subst (λ s. Answers c.args.lines.now s c.take-done.result c.take-done.new.self.store.now) (w.first none)
+          (subst (λ l. Answers l c.loop-line.self.store.now c.take-done.result c.take-done.new.self.store.now) (cut.0 ∙ one_line c.args.lines.now n long none) a.answer);
     }
 
 pub returns : goal.returns
@@ -48,6 +45,7 @@ returns c =
     let few : length c.args.lines.now - 46 * n < 46 = omega (arith, step.1.0, ap length w.rest, length-drop (46 * n) c.args.lines.now, w.size) in
     let all : n ≡ length c.args.lines.now / 46 = omega arith in
     record {
-      taken = subst (TakenFirst c.args.lines.now c.args.store.now c.args.counts.now c.loop-line.store c.loop-line.total) all w.taken;
+      taken = subst (TakenFirst c.args.lines.now c.args.self.now.store.now c.args.counts.now c.loop-line.self.store.now c.loop-line.total) all w.taken;
       single = λ long. w.single long (omega arith);
+      named = w.named;
     }
