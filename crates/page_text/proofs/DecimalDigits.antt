@@ -1,12 +1,12 @@
 -- The decimal digits of bytes: what is written as a number is read as that number. Assumes nothing.
-use Rattle.std.proofs.Common.{◌≡◌, ℕ, suc, ◌+◌, ◌%◌, ◌<◌, ◌≤◌, Bool, true, false, ◌&&◌, eqb, ltb, leb, List, [], ◌∷◌, ◌++◌, length, get_or, take, drop, Some, sym, refl, ap, ◌∙◌, ⊎_elim, one-add, arith}
+use Rattle.std.proofs.Common.{◌≡◌, ℕ, suc, ◌+◌, ◌/◌, ◌%◌, ◌<◌, ◌≤◌, Bool, true, false, cond, ◌&&◌, eqb, ltb, leb, List, [], ◌∷◌, ◌++◌, length, get_or, take, drop, Some, sym, refl, ap, ◌∙◌, ⊎_elim, one-add, arith}
 use Rattle.std.specs.Char.{is_ascii_digit}
 use Rattle.std.specs.Fmt.{digits, decimal}
 use Rattle.std.specs.List.{prefix_len, AllByRecursion}
 use Rattle.std.proofs.ByRecursion.{All-push}
-use Rattle.std.proofs.lemmas.Fmt.{decimal_by_steps}
+use Rattle.std.proofs.lemmas.Fmt.{decimal_digit, decimal_step, decimal_by_steps}
 use Rattle.std.proofs.lemmas.List.{take_at, drop_at}
-use Rattle.std.proofs.lemmas.Bool.{and_parts, eqb-true, leb-true, ltb-true, cond-true, cond-false, cases_Bool}
+use Rattle.std.proofs.lemmas.Bool.{and_parts, eqb-true, leb-true, ltb-true, ltb-false, cond_both, cond-true, cond-false, cases_Bool}
 use Rattle.coding.proofs.Below.{all_below, below_at}
 use Rattle.text.specs.Number.{digits_value}
 use Rattle.page_text.specs.Reading.{read_number}
@@ -83,3 +83,22 @@ number_written places greatest n rest h short low end =
 pub digits_plain : (n : ℕ) → n < 256 → AllByRecursion (λ b. 32 ≤ b) (decimal n)
 digits_plain n h =
     decimal_by_steps (λ _ ds. AllByRecursion (λ b. 32 ≤ b) ds) (λ m l. (omega arith, tt)) (λ m ds l a. All-push (λ b. 32 ≤ b) ds (48 + m % 10) a (omega arith)) n (omega arith)
+
+-- the digits of a number below 1000, written out
+pub decimal_short : (n : ℕ) → n < 1000 → decimal n ≡ cond (ltb n 10) ((48 + n % 10) ∷ []) (cond (ltb n 100) ((48 + n / 10 % 10) ∷ ((48 + n % 10) ∷ [])) ((48 + n / 100) ∷ ((48 + n / 10 % 10) ∷ ((48 + n % 10) ∷ []))))
+decimal_short n h =
+    cond_both (ltb n 10) _ _ (λ ds. decimal n ≡ ds)
+    (λ one. let units : n ≡ n % 10 = omega (arith, ltb-true n 10 one) in decimal_digit n (ltb-true n 10 one) ∙ ap (λ d. (48 + d) ∷ []) units)
+    (λ more.
+    let some : 10 ≤ n = ltb-false n 10 more in
+    let last : decimal n ≡ decimal (n / 10) ++ (48 + n % 10) ∷ [] = decimal_step n some (omega arith) in
+    last ∙ cond_both (ltb n 100) _ _ (λ ds. decimal (n / 10) ++ (48 + n % 10) ∷ [] ≡ ds)
+    (λ two.
+    let few : n < 100 = ltb-true n 100 two in
+    let tens : n / 10 ≡ n / 10 % 10 = omega arith in
+    ap (λ ds. ds ++ (48 + n % 10) ∷ []) (decimal_digit (n / 10) (omega arith)) ∙ ap (λ d. (48 + d) ∷ ((48 + n % 10) ∷ [])) tens)
+    (λ three.
+    let many : 100 ≤ n = ltb-false n 100 three in
+    let hundreds : n / 10 / 10 ≡ n / 100 = omega arith in
+    ap (λ ds. ds ++ (48 + n % 10) ∷ []) (decimal_step (n / 10) (omega arith) (omega arith) ∙ ap (λ ds. ds ++ (48 + n / 10 % 10) ∷ []) (decimal_digit (n / 10 / 10) (omega arith)))
+    ∙ ap (λ d. (48 + d) ∷ ((48 + n / 10 % 10) ∷ ((48 + n % 10) ∷ []))) hundreds))

@@ -1,16 +1,15 @@
 -- Lemmas on the pages that a text begins, and on its reading line by line. Assumes nothing.
-use Rattle.std.proofs.Common.{◌≡◌, ℕ, zero, suc, ◌+◌, ◌-◌, ◌*◌, ◌<◌, ◌≤◌, true, false, ◌||◌, eqb, ◌⊎◌, List, [], ◌∷◌, ◌++◌, length, get_or, take, drop, set, replicate, Some, None, Err, Option, Result, subst, sym, refl, ap, ◌∙◌, ⊎_elim, one-add, arith}
+use Rattle.std.proofs.Common.{◌≡◌, ℕ, zero, suc, ◌+◌, ◌-◌, ◌*◌, ◌<◌, ◌≤◌, true, false, ◌||◌, eqb, ◌⊎◌, List, [], ◌∷◌, ◌++◌, length, get_or, take, drop, set, replicate, Some, None, Err, Option, Result, subst, sym, refl, ap, ◌∙◌, ⊎_elim, arith}
 use borrow.Rule.Slice.PartMut.{put_mid, post_of}
 use Rattle.std.specs.List.{list_any}
 use Rattle.std.proofs.lemmas.List.{drop_more, drop_all, drop-replicate, drop-drop}
-use Rattle.std.proofs.lemmas.Bool.{cases_Bool, cases_lt, or_left, or_right, or_from, cond-true, cond-false, eq-eqb, ne_eqb}
-use Rattle.line.specs.Size.{columns}
+use Rattle.std.proofs.lemmas.Bool.{or_left, or_right, or_from, cond-true, cond-false, eq-eqb, ne_eqb}
 use Rattle.page_text.specs.declared.reading.Draft.{Draft}
 use Rattle.page_text.specs.declared.Page.{Page}
 use Rattle.page_text.specs.declared.TextError.{TextError}
 use Rattle.page_text.specs.declared.TextError.TheVariants.{Refused, Memory}
 use Rattle.page_text.specs.Code.{Taken, Tells}
-use Rattle.page_text.specs.Reading.{in_line, before_first, lines_of, padded, with_row, page_with_row, blank_page, has_page, on_last, what_says, heading, row, Reading, no_rows, read_on, Outcome, pages_read, bad_line, by_reading, read_lines}
+use Rattle.page_text.specs.Reading.{padded, with_row, page_with_row, blank_page, has_page, on_last, what_says, heading, row, Reading, no_rows, read_on, Outcome, pages_read, bad_line, by_reading, read_lines}
 use Rattle.text.specs.Lines.{without_return}
 
 pub padded_is : (ls got : List ℕ) → got ≡ ls → got ++ drop (length ls) (replicate 40 32) ≡ padded ls

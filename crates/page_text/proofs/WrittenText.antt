@@ -1,5 +1,5 @@
 -- Lemmas on the writing of page texts, part by part. Assumes nothing.
-use Rattle.std.proofs.Common.{◌≡◌, ℕ, ◌+◌, ◌-◌, ◌*◌, ◌/◌, ◌%◌, ◌<◌, ◌≤◌, true, cond, ltb, List, [], ◌∷◌, ◌++◌, take, drop, is_ok, is_err, Ok, Err, codes, Result, sym, ap, ◌∙◌, append_assoc, append-nil, add-one, arith}
+use Rattle.std.proofs.Common.{◌≡◌, ℕ, ◌+◌, ◌*◌, true, cond, List, [], ◌∷◌, ◌++◌, take, drop, is_ok, is_err, Ok, Err, codes, Result, sym, ap, ◌∙◌, append_assoc, append-nil, add-one, arith}
 use Rattle.std.specs.Fmt.{decimal}
 use Rattle.line.specs.Size.{columns}
 use Rattle.page_text.specs.Code.{Begins, Appended}

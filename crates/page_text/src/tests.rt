@@ -19,15 +19,9 @@ fn greets(rt: &impl Abort, heap: Global, text: &[u8]) -> Result<(), Fail> {
     assert!(rt; pages.len() == 1);
     assert_eq!(rt; pages[0].number, 18);
     assert_eq!(rt; pages[0].version, 3);
-    let hello = b"HELLO";
-    for (place, letter) in pages[0].letters.iter().enumerate() {
-        let wanted = if place >= 40 && place < 45 {
-            hello[place - 40]
-        } else {
-            BLANK
-        };
-        assert_eq!(rt; *letter, wanted);
-    }
+    let mut wanted = [BLANK; PAGE_LETTERS];
+    wanted[40..45].copy_from_slice(b"HELLO");
+    assert_eq!(rt; pages[0].letters, wanted);
     Ok(())
 }
 
@@ -78,5 +72,14 @@ fn refuses_bad_lines(rt: HostRuntime) -> Result<(), Fail> {
     for (text, place) in cases {
         assert_eq!(rt; refusal(rt.alloc(), text)?, place);
     }
+    Ok(())
+}
+
+#[test]
+fn prints_why(rt: HostRuntime) -> Result<(), Fail> {
+    let refused = TextError::Refused(4).to_string(rt.alloc())?;
+    assert_eq!(rt; refused.as_str(), "refused 3, place 4");
+    let memory = TextError::Memory.to_string(rt.alloc())?;
+    assert_eq!(rt; memory.as_str(), "no memory");
     Ok(())
 }

@@ -11,8 +11,7 @@ use std::alloc::{AllocError, Global};
 fn write_heading(heap: Global, page: &Page, out: &mut Vec<u8>) -> Result<(), AllocError>
     ensures { Appended out.old.items out.new.items (ended (heading_line page.now.number page.now.version)) result }
 {
-    let (number, version) = (page.number, page.version);
-    let heading = format!(in heap; "page {number} version {version}\n")?;
+    let heading = format!(in heap; "page {} version {}\n", page.number, page.version)?;
     out.extend_from_slice(heading.as_bytes())
 }
 
@@ -39,7 +38,8 @@ pub fn write_page(heap: Global, page: &Page) -> Result<Vec<u8>, AllocError>
 {
     let mut out = Vec::new(heap);
     write_heading(heap, page, &mut out)?;
-    for (row, letters) in page.rows().iter().enumerate() {
+    let rows = page.rows();
+    for (row, letters) in rows.iter().enumerate() {
         write_row(heap, row, letters, &mut out)?;
     }
     Ok(out)

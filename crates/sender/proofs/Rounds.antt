@@ -22,10 +22,6 @@ pub no_turn : (pages : ℕ) (s : Schedule) → pages ≡ 0 → turn pages s ≡ 
 unfolding turn
 no_turn pages s e = cond-true _ _ _ (eq-eqb pages 0 e)
 
-pub no_move : (pages : ℕ) (s : Schedule) → pages ≡ 0 → after pages s ≡ s
-unfolding after
-no_move pages s e = cond-true _ _ _ (eq-eqb pages 0 e)
-
 pub some_turn : (pages : ℕ) (s : Schedule) → (pages ≡ 0 → ⊥) → turn pages s ≡ Some (line_of (in_range pages s.page) (in_range rows s.row))
 unfolding turn
 some_turn pages s ne = cond-false _ _ _ (ne_eqb pages 0 ne)

@@ -8,14 +8,14 @@ const ROWS: u64 = line::ROWS as u64;
 
 // Where the sender stands: the place of the next page in the list of pages, and the row. A number that is out of
 // range, as after a page was taken away, counts as 0.
-#[derive(Clone, Copy)]
+#[derive(Clone, Copy, Debug, Default, PartialEq, Eq)]
 pub struct Schedule {
     pub page: u64,
     pub row: u64,
 }
 
-// A line that goes: the place of its page in the list of pages, and its row.
-#[derive(Clone, Copy)]
+// A line that goes: the place of its page in the list of pages, and its row. Unlike a schedule's, both are in range.
+#[derive(Clone, Copy, Debug, PartialEq, Eq)]
 pub struct Turn {
     pub page: u64,
     pub row: u64,
@@ -23,13 +23,13 @@ pub struct Turn {
 
 // The line that goes now, of `pages` pages, and the schedule one line on. With no pages no line goes, and the schedule
 // stays as it is.
+#[tactic(auto, using(crate::proofs::Rounds::each_line_once, std::proofs::lemmas::Bool::Decides::nat_tests), unfolding(crate::specs::Schedule::turn, crate::specs::Schedule::after, crate::specs::Schedule::in_range))]
 pub fn next(pages: u64, schedule: &mut Schedule) -> Option<Turn>
     ensures answer { result ≡ turn pages schedule.old }
     ensures moved { schedule.new ≡ after pages schedule.old }
     ensures law { EachLineOnce }
 {
-    let no_pages = pages == 0;
-    if no_pages {
+    if pages == 0 {
         return None;
     }
     let page = in_range(schedule.page, pages);
@@ -39,6 +39,7 @@ pub fn next(pages: u64, schedule: &mut Schedule) -> Option<Turn>
 }
 
 // The line that goes after `ahead` more: what one call of `next` after another answers. The schedule stays as it is.
+#[tactic(auto, using(crate::proofs::Rounds::turns_none, crate::proofs::Rounds::turns_more))]
 pub fn look_ahead(pages: u64, schedule: &Schedule, ahead: u64) -> Option<Turn>
     ensures { result ≡ turn_at pages schedule.now ahead }
 {
@@ -50,6 +51,7 @@ pub fn look_ahead(pages: u64, schedule: &Schedule, ahead: u64) -> Option<Turn>
 }
 
 // The number, or 0 where it is out of range.
+#[tactic(auto, using(std::proofs::lemmas::Bool::Decides::nat_tests), unfolding(crate::specs::Schedule::in_range))]
 fn in_range(number: u64, limit: u64) -> u64
     ensures { result ≡ in_range limit number }
 {
@@ -57,21 +59,22 @@ fn in_range(number: u64, limit: u64) -> u64
 }
 
 // The schedule one line on.
+#[tactic(auto, using(std::proofs::lemmas::Bool::Decides::nat_tests), unfolding(crate::specs::Schedule::one_on))]
 fn one_on(pages: u64, page: u64, row: u64) -> Schedule
     requires page { page < pages }
     requires row { row < rows }
     ensures { result ≡ one_on pages page row }
 {
-    let more_pages = page + 1 < pages;
-    if more_pages {
-        return Schedule {
+    if page + 1 < pages {
+        Schedule {
             page: page + 1,
             row,
-        };
-    }
-    Schedule {
-        page: 0,
-        row: in_range(row + 1, ROWS),
+        }
+    } else {
+        Schedule {
+            page: 0,
+            row: in_range(row + 1, ROWS),
+        }
     }
 }
 
@@ -79,30 +82,29 @@ fn one_on(pages: u64, page: u64, row: u64) -> Schedule
 mod tests {
     use super::*;
 
-    fn goes(line: Option<Turn>, page: u64, row: u64) -> bool {
-        match line {
-            Some(turn) => turn.page == page && turn.row == row,
-            None => false,
-        }
-    }
-
     #[test]
     fn two_pages(rt: HostRuntime) {
-        let mut schedule = Schedule { page: 0, row: 0 };
-        assert!(rt; goes(next(2, &mut schedule), 0, 0));
-        assert!(rt; goes(next(2, &mut schedule), 1, 0));
-        assert!(rt; goes(next(2, &mut schedule), 0, 1));
-        assert!(rt; goes(look_ahead(2, &schedule, 0), 1, 1));
-        assert!(rt; goes(look_ahead(2, &schedule, 46), 1, 24));
-        assert!(rt; goes(look_ahead(2, &schedule, 47), 0, 0));
+        let mut schedule = Schedule::default();
+        assert_eq!(rt; next(2, &mut schedule), Some(Turn { page: 0, row: 0 }));
+        assert_eq!(rt; next(2, &mut schedule), Some(Turn { page: 1, row: 0 }));
+        assert_eq!(rt; next(2, &mut schedule), Some(Turn { page: 0, row: 1 }));
+        assert_eq!(rt; look_ahead(2, &schedule, 0), Some(Turn { page: 1, row: 1 }));
+        assert_eq!(rt;
+            look_ahead(2, &schedule, 46),
+            Some(Turn { page: 1, row: 24 })
+        );
+        assert_eq!(rt;
+            look_ahead(2, &schedule, 47),
+            Some(Turn { page: 0, row: 0 })
+        );
     }
 
     #[test]
     fn no_pages_and_fewer_pages(rt: HostRuntime) {
         let mut schedule = Schedule { page: 7, row: 3 };
-        assert!(rt; next(0, &mut schedule).is_none());
+        assert_eq!(rt; next(0, &mut schedule), None);
         assert_eq!(rt; schedule.page, 7);
-        assert!(rt; goes(next(2, &mut schedule), 0, 3));
+        assert_eq!(rt; next(2, &mut schedule), Some(Turn { page: 0, row: 3 }));
         assert_eq!(rt; schedule.page, 1);
     }
 }

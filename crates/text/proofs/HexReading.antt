@@ -1,12 +1,12 @@
 -- Reading a line in hex: the digits' table, and one step of the reader. Assumes nothing.
-use Rattle.std.proofs.Common.{◌≡◌, ℕ, ◌+◌, ◌*◌, ◌<◌, ◌≤◌, false, ◌&&◌, ltb, ◌⊎◌, List, [], ◌∷◌, ◌++◌, map, length, get_or, drop, Some, None, Option, MatchOption, sym, refl, ap, ◌∙◌, ⊎_elim, append_assoc, append-nil, add_assoc, zero-add, arith}
+use Rattle.std.proofs.Common.{◌≡◌, ℕ, ◌+◌, ◌*◌, ◌<◌, ◌≤◌, ltb, List, [], ◌∷◌, ◌++◌, map, length, get_or, Some, None, Option, MatchOption, sym, refl, ap, ◌∙◌, ⊎_elim, append_assoc, append-nil, zero-add, arith}
 use Rattle.std.specs.List.{range_with_len}
 use Rattle.std.specs.Bool.{then_some}
 use Rattle.std.specs.Option.{option_map}
 use Rattle.std.proofs.lemmas.List.FromFn.{get_or-map-range_with_len}
 use Rattle.std.proofs.lemmas.List.{nil_from_length}
-use Rattle.std.proofs.lemmas.Bool.{eq-eqb, ne_eqb, cond-true, cond-false, and_left, and_right, and_from, lt-ltb, le-ltb, cases_lt}
-use Rattle.text.specs.Hex.{blank, between, digit_value, byte_of, in_front, hex_bytes}
+use Rattle.std.proofs.lemmas.Bool.{eq-eqb, ne_eqb, cond-true, cond-false, and_from, lt-ltb, le-ltb, cases_lt}
+use Rattle.text.specs.Hex.{blank, digit_value, byte_of, in_front, hex_bytes}
 
 -- the values of all bytes as digits
 unfoldable pub table : List ℕ
@@ -29,10 +29,6 @@ digit_there c i o low at e =
 -- bytes in front of those that the rest spells, if it spells any
 abbrev pub after : List ℕ → Option (List ℕ) → Option (List ℕ)
 after front rest = option_map (λ bs. front ++ bs) rest
-
-pub after_none : (o : Option (List ℕ)) → o ≡ after [] o
-after_none None = refl
-after_none (Some bs) = refl
 
 -- one byte more in front
 pub after_push : (front : List ℕ) (b : ℕ) (o : Option (List ℕ)) → after front (in_front (Some b) o) ≡ after (front ++ b ∷ []) o
@@ -84,16 +80,9 @@ module _ (line read left : List ℕ) (so_far : hex_bytes line ≡ after read (he
         at_more : hex_bytes line ≡ after (read ++ b ∷ []) (hex_bytes behind)
         at_more = at_byte ∙ ap (λ o. after read (in_front o (hex_bytes behind))) (sym some) ∙ after_push read b (hex_bytes behind)
 
--- the byte that two digits spell, and that there is none
+-- the byte that two digits spell
 pub is_byte : (high low h l : ℕ) → h ≡ digit_value high → l ≡ digit_value low → h < 16 → l < 16 → Some (16 * h + l) ≡ byte_of high low
 unfolding byte_of
 is_byte high low h l eh el lh ll =
     let here : 16 * h + l ≡ 16 * digit_value high + digit_value low = omega arith in
     ap Some here ∙ sym (cond-true _ _ _ (and_from _ _ (lt-ltb (digit_value high) 16 (omega arith)) (lt-ltb (digit_value low) 16 (omega arith))))
-
-pub no_byte : (high low h l : ℕ) → h ≡ digit_value high → l ≡ digit_value low → ((h < 16) × (16 ≤ l)) ⊎ (16 ≤ h) → None ≡ byte_of high low
-unfolding byte_of
-no_byte high low h l eh el way =
-    let fails : (ltb (digit_value high) 16 && ltb (digit_value low) 16) ≡ false =
-    ⊎_elim (λ w. and_right _ _ (le-ltb (digit_value low) 16 (omega arith))) (λ w. and_left _ _ (le-ltb (digit_value high) 16 (omega arith))) way in
-    sym (cond-false _ _ _ fails)

@@ -52,11 +52,3 @@ byte_text old b high low h eh el =
 
 pub digit_length : (v c : ℕ) → v < 16 → c ≡ digit_of v → length (encode c) ≡ 1
 digit_length v c h e = ap length (digit_text v c h e)
-
-pub low_digit : (v : ℕ) → v < 10 → 48 + v ≡ digit_of v
-unfolding digit_of
-low_digit v h = sym (cond-true _ _ _ (lt-ltb v 10 h))
-
-pub high_digit : (v : ℕ) → 10 ≤ v → 87 + v ≡ digit_of v
-unfolding digit_of
-high_digit v h = sym (cond-false _ _ _ (le-ltb v 10 h))

@@ -2,7 +2,7 @@
 use Rattle.std.proofs.Common.{◌≡◌, ℕ, ◌+◌, ◌<◌, ◌≤◌, true, false, ltb, leb, ◌⊎◌, List, [], ◌∷◌, ◌++◌, map, length, get_or, take, sym, ap, ◌∙◌, inl, inr, ⊎_elim, append_assoc, append-nil, arith}
 use lib.Utf8.{encode, encodes}
 use Rattle.std.proofs.lemmas.List.{map_more}
-use Rattle.std.proofs.lemmas.Bool.{and_parts, and_from, and_left, and_right, leb-true, ltb-true, le-leb, lt-leb, lt-ltb, le-ltb, eq-eqb, ne_eqb, cond-true, cond-false, cases_eq, cases_Bool}
+use Rattle.std.proofs.lemmas.Bool.{and_parts, leb-true, ltb-true, eq-eqb, ne_eqb, cond-true, cond-false, cases_eq, cases_Bool}
 use Rattle.std.proofs.lemmas.Str.{encode_ascii, encodes-append}
 use Rattle.coding.specs.Parity.{is_letter}
 use Rattle.text.specs.Screen.{block_sign, gap_sign, sign_of, shown, SignsDiffer}
@@ -10,14 +10,6 @@ use Rattle.text.specs.Screen.{block_sign, gap_sign, sign_of, shown, SignsDiffer}
 letter_range : (c : ℕ) → is_letter c ≡ true → (32 ≤ c) × (c < 128)
 unfolding is_letter
 letter_range c e = let parts = and_parts (leb 32 c) (ltb c 128) e in (leb-true 32 c parts.0, ltb-true c 128 parts.1)
-
-letter_from : (c : ℕ) → 32 ≤ c → c < 128 → is_letter c ≡ true
-unfolding is_letter
-letter_from c low high = and_from _ _ (le-leb 32 c low) (lt-ltb c 128 high)
-
-no_letter_from : (c : ℕ) → (c < 32) ⊎ (128 ≤ c) → is_letter c ≡ false
-unfolding is_letter
-no_letter_from c way = ⊎_elim (λ h. and_left (leb 32 c) (ltb c 128) (lt-leb 32 c h)) (λ h. and_right (leb 32 c) (ltb c 128) (le-ltb c 128 h)) way
 
 letter_sign : (c : ℕ) → is_letter c ≡ true → (c ≡ 127 → ⊥) → sign_of c ≡ c
 unfolding sign_of
@@ -30,16 +22,6 @@ last_sign c e last = cond-true _ _ _ e ∙ cond-true _ _ _ (eq-eqb c 127 last)
 none_sign : (c : ℕ) → is_letter c ≡ false → sign_of c ≡ gap_sign
 unfolding sign_of
 none_sign c e = cond-false _ _ _ e
-
--- the sign of each byte
-pub sign_itself : (c : ℕ) → 32 ≤ c → c ≤ 127 → (c ≡ 127 → ⊥) → c ≡ sign_of c
-sign_itself c low high ne = sym (letter_sign c (letter_from c low (omega arith)) ne)
-
-pub sign_block : (c : ℕ) → c ≡ 127 → block_sign ≡ sign_of c
-sign_block c e = sym (last_sign c (letter_from c (omega arith) (omega arith)) e)
-
-pub sign_gap : (c : ℕ) → (c < 32) ⊎ (127 < c) → gap_sign ≡ sign_of c
-sign_gap c way = sym (none_sign c (no_letter_from c (⊎_elim (λ h. inl h) (λ h. inr (omega arith)) way)))
 
 -- a letter's sign is the letter, or the block
 letter_cases : (c : ℕ) → is_letter c ≡ true → ((c < 127) × (sign_of c ≡ c)) ⊎ ((c ≡ 127) × (sign_of c ≡ block_sign))

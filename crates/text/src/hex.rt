@@ -119,6 +119,7 @@ fn write_byte(byte: u8, out: &mut String)
 }
 
 // The lower-case digit of a value.
+#[tactic(auto, using(std::proofs::lemmas::Bool::Decides::nat_tests), unfolding(crate::specs::Hex::digit_of))]
 fn digit_of(value: u8) -> char
     requires { value < 16 }
     ensures { result ≡ digit_of value }

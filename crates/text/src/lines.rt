@@ -7,6 +7,7 @@ const RETURN: u8 = b'\r';
 const NEWLINE: u8 = b'\n';
 
 // A line without the carriage return that it may end with.
+#[tactic(auto, unfolding(crate::specs::Lines::without_return))]
 pub fn trim_return(line: &[u8]) -> &[u8]
     ensures { result.now ≡ without_return line.now }
 {
@@ -14,6 +15,7 @@ pub fn trim_return(line: &[u8]) -> &[u8]
 }
 
 // A line without the newline that it may end with.
+#[tactic(auto, unfolding(crate::specs::Lines::without_newline))]
 pub fn trim_newline(line: &[u8]) -> &[u8]
     ensures { result.now ≡ without_newline line.now }
 {
@@ -21,8 +23,12 @@ pub fn trim_newline(line: &[u8]) -> &[u8]
 }
 
 // A line without a byte that it may end with.
+#[tactic(auto, using(std::proofs::lemmas::Bool::Decides::nat_tests))]
 fn trim_end(line: &[u8], end: u8) -> &[u8]
     ensures { result.now ≡ without_end end line.now }
 {
-    line.strip_suffix(&[end]).unwrap_or(line)
+    match line {
+        [front @ .., last] if *last == end => front,
+        _ => line,
+    }
 }

@@ -1,4 +1,4 @@
-use Rattle.std.proofs.Common.{ℕ, sym, rules, arith}
+use Rattle.std.proofs.Common.{rules, arith}
 use Rattle.page_text.proofs.LineItems.{says_nothing, says_comment, says_heading, says_row, says_neither}
 use Rattle.page_text.proofs.items.read_item.Goals as goal
 use Rattle.page_text.proofs.items.read_item.Goals.{then-line-lt1, else-line-lt1+in-35-1}

@@ -1,4 +1,4 @@
-use Rattle.std.proofs.Common.{◌≡◌, length, drop, vec_items, sym, ap, ◌∙◌, arith, rules, tests}
+use Rattle.std.proofs.Common.{length, drop, vec_items, sym, ap, ◌∙◌, arith, rules, tests}
 use Rattle.std.proofs.lemmas.Result.{err_from_is_err_and}
 use Rattle.std.proofs.lemmas.List.{length_push}
 use Rattle.std.proofs.lemmas.List.FromFn.{length-enumerate_from}
@@ -19,7 +19,7 @@ loop-place-preserved c =
     let bs = c.args.text.now in
     let s = reading c.loop-place.draft in
     let t = YieldsList-turn (numbered_parts _ bs c.into_iter-place-iterator.ensures.into_iter_gives c.enumerate-place-items.ensures.source c.enumerate-place-items.ensures.count c.split.ensures.rest c.split.ensures.done c.split.ensures.closure (λ x b q k. search (rules, tests)))
-        c.loop-place.yielded c.loop-place.place-iterator c.loop-place.yielded_by c.next.result c.next.new.self (c.in-Some.place, c.in-Some.line) c.in-Some.is c.next.ensures.steps in
+    c.loop-place.yielded c.loop-place.place-iterator c.loop-place.yielded_by c.next.result c.next.new.self (c.in-Some.place, c.in-Some.line) c.in-Some.is c.next.ensures.steps in
     let a = part_at bs (length c.loop-place.yielded) c.in-Some.place c.in-Some.line.now t in
     ap (λ n. read_lines n (reading c.take_line.new.self) (drop n (parts bs))) (length_push c.loop-place.yielded (c.in-Some.place, c.in-Some.line))
     ∙ sym (read_further (parts bs) (length c.loop-place.yielded) s (reading c.take_line.new.self) c.in-Some.line.now c.in-Some.line.now a.within a.is (ap (λ l. read_on (what_says l) s) (sym c.trim_return.ensures) ∙ c.in_ok-take_line.ensures))
@@ -30,11 +30,11 @@ returns-in_err-take_line-clause-outcome c =
     let bs = c.args.text.now in
     let s = reading c.loop-place.draft in
     let t = YieldsList-turn (numbered_parts _ bs c.into_iter-place-iterator.ensures.into_iter_gives c.enumerate-place-items.ensures.source c.enumerate-place-items.ensures.count c.split.ensures.rest c.split.ensures.done c.split.ensures.closure (λ x b q k. search (rules, tests)))
-        c.loop-place.yielded c.loop-place.place-iterator c.loop-place.yielded_by c.next.result c.next.new.self (c.in-Some.place, c.in-Some.line) c.in-Some.is c.next.ensures.steps in
+    c.loop-place.yielded c.loop-place.place-iterator c.loop-place.yielded_by c.next.result c.next.new.self (c.in-Some.place, c.in-Some.line) c.in-Some.is c.next.ensures.steps in
     let a = part_at bs (length c.loop-place.yielded) c.in-Some.place c.in-Some.line.now t in
     let p = err_from_is_err_and c.from_residual.result c.from_residual.ensures.1 in
     rw (p.1, p.2) (tells c.in_err-take_line.field-0.0 _ c.loop-place.draft c.take_line.new.self c.in-Some.place (read_text bs) c.in_err-take_line.ensures
-        (λ none. sym c.loop-place.invariant ∙ read_refused (parts bs) (length c.loop-place.yielded) s c.in-Some.line.now c.in-Some.line.now a.within a.is (ap (λ l. read_on (what_says l) s) (sym c.trim_return.ensures) ∙ none) ∙ ap bad_line (sym a.at)))
+    (λ none. sym c.loop-place.invariant ∙ read_refused (parts bs) (length c.loop-place.yielded) s c.in-Some.line.now c.in-Some.line.now a.within a.is (ap (λ l. read_on (what_says l) s) (sym c.trim_return.ensures) ∙ none) ∙ ap bad_line (sym a.at)))
 
 pub returns-in_err-take_line-clause-laws : goal.returns-in_err-take_line-clause-laws
 returns-in_err-take_line-clause-laws c = (pages_are_sound, refusals_are_first)
@@ -44,7 +44,7 @@ whole : goal.returns-clause-outcome
 whole c =
     let bs = c.args.text.now in
     let e = YieldsList-end (numbered_parts _ bs c.into_iter-place-iterator.ensures.into_iter_gives c.enumerate-place-items.ensures.source c.enumerate-place-items.ensures.count c.split.ensures.rest c.split.ensures.done c.split.ensures.closure (λ x b q k. search (rules, tests)))
-        c.loop-place.yielded c.loop-place.place-iterator c.loop-place.yielded_by c.next.result c.next.new.self c.in-None.is c.next.ensures.steps in
+    c.loop-place.yielded c.loop-place.place-iterator c.loop-place.yielded_by c.next.result c.next.new.self c.in-None.is c.next.ensures.steps in
     sym c.loop-place.invariant ∙ read_end (parts bs) (length c.loop-place.yielded) (reading c.loop-place.draft) (omega (arith, e.1, length-enumerate_from 0 (parts bs))) ∙ ap pages_read (sym c.finish.ensures)
 
 pub returns-clause-outcome : goal.returns-clause-outcome

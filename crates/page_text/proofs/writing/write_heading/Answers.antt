@@ -1,4 +1,4 @@
-use Rattle.std.proofs.Common.{◌∙◌, ap, codes, refl, append_assoc}
+use Rattle.std.proofs.Common.{◌∙◌}
 use Rattle.page_text.proofs.WrittenText.{appended, heading_text}
 use Rattle.page_text.proofs.writing.write_heading.Goals as goal
 

@@ -1,4 +1,4 @@
-use Rattle.std.proofs.Common.{◌≡◌, ◌∙◌, Some, None, ap, sym, arith}
+use Rattle.std.proofs.Common.{◌≡◌, ◌∙◌, Some, ap, sym, arith}
 use Rattle.page_text.specs.Reading.{read_on, unreadable, what_says}
 use Rattle.page_text.specs.Code.{reading, said}
 use Rattle.page_text.proofs.DraftPages.{refused}
