@@ -38,28 +38,13 @@ on_last_at f (x ∷ []) (suc k) p q h e g = absurd (omega arith)
 on_last_at f (x ∷ (y ∷ ps)) zero p q h e g = absurd (omega arith)
 on_last_at f (x ∷ (y ∷ ps)) (suc k) p q h e g = ap (λ l. x ∷ l) (on_last_at f (y ∷ ps) k p q (omega arith) e g)
 
--- a row of which the place in the page is i
-module _ (r i : ℕ) (ls : List ℕ) (s : Reading) (at : i ≡ r) where
-  pub row_refused : (length s.begun ≡ 0) ⊎ (get_or s.given i false ≡ true) → read_on (row r ls) s ≡ None
-  unfolding read_on
-  row_refused out =
-      cond-true (eqb (length s.begun) 0 || get_or s.given r false) None _
-      (⊎_elim
-      (λ (none : length s.begun ≡ 0). or_left (eqb (length s.begun) 0) (get_or s.given r false) (eq-eqb _ 0 none))
-      (λ (twice : get_or s.given i false ≡ true). or_right (eqb (length s.begun) 0) (get_or s.given r false) (ap (λ k. get_or s.given k false) (sym at) ∙ twice))
-      out)
-
-  -- it is put into the last of the pages
-  pub row_taken : (k : ℕ) (p q : Page) → length s.begun ≡ suc k → get_or s.given i false ≡ false → p ≡ get_or s.begun k p → q.number ≡ p.number → q.version ≡ p.version → q.letters ≡ with_row r ls p.letters → read_on (row r ls) s ≡ Some (record { begun = set s.begun k q; given = set s.given i true })
-  unfolding read_on page_with_row
-  row_taken k p q last new page num ver let-ters =
-      let is : q ≡ page_with_row r ls p = λ j. record { number = num j; version = ver j; letters = let-ters j } in
-      cond-false (eqb (length s.begun) 0 || get_or s.given r false) None _ (or_from (eqb (length s.begun) 0) (get_or s.given r false) (ne_eqb _ 0 (λ e. omega arith)) (ap (λ n. get_or s.given n false) (sym at) ∙ new))
-      ∙ (λ j. Some (record { begun = sym (on_last_at (page_with_row r ls) s.begun k p q last page is) j; given = set s.given (sym at j) true }))
-
-pub heading_twice : (n v : ℕ) (s : Reading) → true ≡ has_page n s.begun → read_on (heading n v) s ≡ None
-unfolding read_on
-heading_twice n v s e = cond-true (has_page n s.begun) None _ (sym e)
+-- a row put into the last of some pages, where i is its place in the page
+pub row_taken : (r i : ℕ) (ls : List ℕ) (s : Reading) (k : ℕ) (p q : Page) → i ≡ r → length s.begun ≡ suc k → get_or s.given i false ≡ false → p ≡ get_or s.begun k p → q.number ≡ p.number → q.version ≡ p.version → q.letters ≡ with_row r ls p.letters → read_on (row r ls) s ≡ Some (record { begun = set s.begun k q; given = set s.given i true })
+unfolding read_on page_with_row
+row_taken r i ls s k p q at last new page num ver let-ters =
+    let is : q ≡ page_with_row r ls p = λ j. record { number = num j; version = ver j; letters = let-ters j } in
+    cond-false (eqb (length s.begun) 0 || get_or s.given r false) None _ (or_from (eqb (length s.begun) 0) (get_or s.given r false) (ne_eqb _ 0 (λ e. omega arith)) (ap (λ n. get_or s.given n false) (sym at) ∙ new))
+    ∙ (λ j. Some (record { begun = sym (on_last_at (page_with_row r ls) s.begun k p q last page is) j; given = set s.given (sym at j) true }))
 
 pub heading_taken : (n v : ℕ) (s : Reading) (p : Page) (ps : List Page) → false ≡ has_page n s.begun → p ≡ blank_page n v → ps ≡ s.begun ++ p ∷ [] → read_on (heading n v) s ≡ Some (record { begun = ps; given = no_rows })
 unfolding read_on
@@ -81,10 +66,6 @@ module _ (ls : List (List ℕ)) (i : ℕ) (s : Reading) where
   pub read_end : length ls ≤ i → read_lines i s (drop i ls) ≡ pages_read s.begun
   unfolding read_lines
   read_end h = ap (read_lines i s) (drop_all i ls h)
-
--- a line that is refused leaves the draft as it was
-pub refused : (next : Option Reading) (d : Draft) (place : ℕ) (r : Result (Unit {0}) TextError) → next ≡ None → r ≡ Err (Refused place) → Taken next d d place r
-refused next d place r none is = subst (Taken next d d place) (sym is) (none, refl, refl)
 
 -- what a refusal of a line tells of the whole text
 pub tells : (e : TextError) (next : Option Reading) (before draft : Draft) (k : ℕ) (outcome : Outcome) → Taken next before draft k (Err e) → (next ≡ None → outcome ≡ bad_line k) → Tells outcome e

@@ -13,31 +13,11 @@ module _ (l : List ℕ) where
   unfolding read_heading and_then
   heading_first e = simp e
 
-  pub heading_page : (a : List ℕ) → after (codes "page ") l ≡ Some a → read_number 3 255 a ≡ None → read_heading l ≡ None
-  unfolding read_heading and_then
-  heading_page a e f = simp (e, f)
-
-  pub heading_second : (a b : List ℕ) (p : ℕ) → after (codes "page ") l ≡ Some a → read_number 3 255 a ≡ Some (p, b) → after (codes " version ") b ≡ None → read_heading l ≡ None
-  unfolding read_heading and_then
-  heading_second a b p e f g = simp (e, f, g)
-
-  pub heading_version : (a b d : List ℕ) (p : ℕ) → after (codes "page ") l ≡ Some a → read_number 3 255 a ≡ Some (p, b) → after (codes " version ") b ≡ Some d → read_number 3 255 d ≡ None → read_heading l ≡ None
-  unfolding read_heading and_then
-  heading_version a b d p e f g h = simp (e, f, g, h)
-
   pub heading_end : (a b d k : List ℕ) (p v : ℕ) → after (codes "page ") l ≡ Some a → read_number 3 255 a ≡ Some (p, b) → after (codes " version ") b ≡ Some d → read_number 3 255 d ≡ Some (v, k) → read_heading l ≡ cond (eqb (length k) 0) (Some (p, v)) None
   unfolding read_heading and_then
   heading_end a b d k p v e f g h = simp (e, f, g, h)
 
   -- a row, read part by part
-  pub row_number : read_number 2 24 l ≡ None → read_row l ≡ None
-  unfolding read_row and_then
-  row_number e = simp e
-
-  pub row_blank : (a : List ℕ) (n : ℕ) → read_number 2 24 l ≡ Some (n, a) → after (codes " ") a ≡ None → read_row l ≡ None
-  unfolding read_row and_then
-  row_blank a n e f = simp (e, f)
-
   pub row_letters : (a ls : List ℕ) (n : ℕ) → read_number 2 24 l ≡ Some (n, a) → after (codes " ") a ≡ Some ls → read_row l ≡ cond (leb (length ls) columns && all_letters ls) (Some (n, ls)) None
   unfolding read_row and_then
   row_letters a ls n e f = simp (e, f)
@@ -49,16 +29,6 @@ each_letter [] = refl
 each_letter (b ∷ bs) = ap (λ t. is_letter b && t) (each_letter bs)
 
 -- what a line says, by its first byte
-pub says_nothing : (l : List ℕ) → length l ≡ 0 → nothing ≡ what_says l
-unfolding what_says
-says_nothing [] e = refl
-says_nothing (b ∷ bs) e = absurd (omega arith)
-
-pub says_comment : (l : List ℕ) → (length l ≡ 0 → ⊥) → get_or l 0 0 ≡ 35 → nothing ≡ what_says l
-unfolding what_says
-says_comment [] some e = absurd (some refl)
-says_comment (b ∷ bs) some e = sym (cond-true (eqb b 35) nothing (heading_or_row (read_heading (b ∷ bs)) (read_row (b ∷ bs))) (eq-eqb b 35 e))
-
 pub says_more : (l : List ℕ) → (length l ≡ 0 → ⊥) → (get_or l 0 0 ≡ 35 → ⊥) → what_says l ≡ heading_or_row (read_heading l) (read_row l)
 unfolding what_says
 says_more [] some e = absurd (some refl)
@@ -72,10 +42,6 @@ module _ (l : List ℕ) (some : length l ≡ 0 → ⊥) (plain : get_or l 0 0 �
   pub says_row : (r : ℕ) (ls : List ℕ) → read_heading l ≡ None → read_row l ≡ Some (r, ls) → row r ls ≡ what_says l
   unfolding heading_or_row
   says_row r ls e f = sym (says_more l some plain ∙ (λ i. heading_or_row (e i) (f i)))
-
-  pub says_neither : read_heading l ≡ None → read_row l ≡ None → unreadable ≡ what_says l
-  unfolding heading_or_row
-  says_neither e f = sym (says_more l some plain ∙ (λ i. heading_or_row (e i) (f i)))
 
 -- a line that says something is a heading or a row, or can't be read
 says_something : (l : List ℕ) (x : Said) → what_says l ≡ x → (nothing ≡ x → ⊥) → heading_or_row (read_heading l) (read_row l) ≡ x

@@ -18,6 +18,7 @@ pub(super) struct Heading {
     pub(super) version: u8,
 }
 
+#[tactic(auto, unfolding(crate::specs::Reading::read_heading, crate::specs::Reading::and_then))]
 fn read_heading(line: &[u8]) -> Option<Heading>
     ensures { MatchOption result (read_heading line.now ≡ None) (λ h. read_heading line.now ≡ Some (h.page, h.version)) }
 {
@@ -43,6 +44,7 @@ pub(super) enum Item<'a> {
 }
 
 // What a line says, or none if it can't be read.
+#[tactic(auto, unfolding(crate::specs::Reading::what_says, crate::specs::Reading::heading_or_row))]
 pub(super) fn read_item<'a>(line: &'a [u8]) -> Option<Item<'a>>
     ensures { said result ≡ what_says line.now }
 {

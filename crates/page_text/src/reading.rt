@@ -59,6 +59,7 @@ impl Draft {
         }
     }
 
+    #[tactic(auto, unfolding(crate::specs::Reading::read_on, crate::specs::Reading::no_rows))]
     fn begin_page(&mut self, heading: Heading, place: usize) -> Result<(), TextError>
         ensures { Taken (read_on (Said.heading heading.page heading.version) (reading self.old)) self.old self.new place result }
     {
@@ -70,6 +71,7 @@ impl Draft {
         Ok(())
     }
 
+    #[tactic(auto, unfolding(crate::specs::Reading::read_on))]
     fn put_row(&mut self, row: Row<'_>, place: usize) -> Result<(), TextError>
         ensures { Taken (read_on (Said.row row.entry.number row.entry.letters.now) (reading self.old)) self.old self.new place result }
     {
@@ -83,6 +85,7 @@ impl Draft {
         Ok(())
     }
 
+    #[tactic(auto, unfolding(crate::specs::Reading::read_on))]
     fn take_line(&mut self, line: &[u8], place: usize) -> Result<(), TextError>
         ensures { Taken (read_on (what_says line.now) (reading self.old)) self.old self.new place result }
     {

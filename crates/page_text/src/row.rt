@@ -41,6 +41,7 @@ fn are_letters(bytes: &[u8]) -> bool
 }
 
 // The row that a line gives, if it gives one.
+#[tactic(auto, unfolding(crate::specs::Reading::read_row, crate::specs::Reading::and_then))]
 pub(super) fn read_row<'a>(line: &'a [u8]) -> Option<Row<'a>>
     ensures { MatchOption result (read_row line.now ≡ None) (λ x. read_row line.now ≡ Some (x.number, x.letters.now)) }
 {

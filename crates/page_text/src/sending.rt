@@ -7,8 +7,8 @@ use super::Page;
 use line::Line;
 
 impl Page {
-    #[tactic(auto, using(crate::proofs::ValidLines::row_line_of))]
     // The line of a row, or none if there is no such row.
+    #[tactic(auto, using(crate::proofs::ValidLines::row_line_of))]
     pub fn row_line(&self, row: u8) -> Option<Line>
         ensures { MatchOption result (rows ≤ row) (λ m. LineOf self.now row m) }
     {

@@ -1,12 +1,13 @@
 // The words of a line: numbers and words at the front of some bytes.
-ghost use Rattle.std.specs.Prelude.{◌≡◌, Some, None, MatchOption};
+ghost use Rattle.std.specs.Prelude.{◌≡◌, ◌≤◌, length, Some, None, MatchOption};
 ghost use Rattle.std.specs.Char.{is_ascii_digit};
 ghost use Rattle.std.specs.List.{prefix_len};
 ghost use Rattle.page_text.specs.Reading.{after, read_number};
 
 // How many digits stand at the front.
 fn digit_count(bytes: &[u8]) -> usize
-    ensures { result ≡ prefix_len is_ascii_digit bytes.now }
+    ensures value { result ≡ prefix_len is_ascii_digit bytes.now }
+    ensures within { result ≤ length bytes.now }
 {
     bytes.iter().take_while(|b| b.is_ascii_digit()).count()
 }
@@ -18,6 +19,7 @@ pub(super) struct Number<'a> {
     pub(super) rest: &'a [u8],
 }
 
+#[tactic(auto, unfolding(crate::specs::Reading::read_number))]
 // The number at the front, of at most `places` digits and at most `greatest`.
 pub(super) fn read_number<'a>(bytes: &'a [u8], places: usize, greatest: u8) -> Option<Number<'a>>
     ensures { MatchOption result (read_number places greatest bytes.now ≡ None) (λ n. read_number places greatest bytes.now ≡ Some (n.value, n.rest.now)) }

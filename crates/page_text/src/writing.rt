@@ -8,6 +8,7 @@ use super::{NEWLINE, Page};
 use line::COLUMNS;
 use std::alloc::{AllocError, Global};
 
+#[tactic(auto, unfolding(crate::specs::Written::heading_line))]
 fn write_heading(heap: Global, page: &Page, out: &mut Vec<u8>) -> Result<(), AllocError>
     ensures { Appended out.old.items out.new.items (ended (heading_line page.now.number page.now.version)) result }
 {

@@ -6,24 +6,18 @@ use Rattle.std.proofs.lemmas.List.Sums.{prefix_len-le-length}
 use Rattle.page_text.proofs.LineWords.{number_long, number_over, number_read, number_unparsed, front_utf8, utf8_is_text, text_is}
 use Rattle.page_text.proofs.words.read_number.Goals as goal
 
-pub split_at-requires : goal.split_at-requires
-split_at-requires c = omega (arith, prefix_len-le-length is_ascii_digit c.args.bytes.now)
-
-pub returns-then-digits-places : goal.returns-then-digits-places
-returns-then-digits-places c = number_long c.args.places c.args.greatest c.args.bytes.now (omega (arith, c.split_at.ensures.front_len))
-
 pub returns-in_err-ok : goal.returns-in_err-ok
 returns-in_err-ok c =
     let bs = c.args.bytes.now in
     let ds = c.split_at.result.0.now in
-    let front : ds ≡ take (prefix_len is_ascii_digit bs) bs = c.split_at.ensures.front ∙ ap (λ n. take n bs) c.digit_count.ensures in
+    let front : ds ≡ take (prefix_len is_ascii_digit bs) bs = c.split_at.ensures.front ∙ ap (λ n. take n bs) c.digit_count.ensures.value in
     absurd (utf8_is_text (λ e. IsValidUpTo ds (valid_up_to e)) ds c.from_utf8.result c.from_utf8.ensures.cases (front_utf8 c.args.places c.args.greatest bs ds front) c.in_err-ok.ensures.value)
 
 pub returns-in_err-value : goal.returns-in_err-value
 returns-in_err-value c =
     let bs = c.args.bytes.now in
     let ds = c.split_at.result.0.now in
-    let front : ds ≡ take (prefix_len is_ascii_digit bs) bs = c.split_at.ensures.front ∙ ap (λ n. take n bs) c.digit_count.ensures in
+    let front : ds ≡ take (prefix_len is_ascii_digit bs) bs = c.split_at.ensures.front ∙ ap (λ n. take n bs) c.digit_count.ensures.value in
     let text = text_is (λ e. IsValidUpTo ds (valid_up_to e)) ds c.from_utf8.result c.from_utf8.ensures.cases c.in_ok-ok.field-0 c.in_ok-ok.ensures.value in
     rw c.from_residual-in_err-value.ensures (number_unparsed c.args.places c.args.greatest bs ds front c.parse.result _ text c.parse.ensures.value.0 c.in_err-value.ensures.value (omega (arith, c.ranges.greatest.fits)))
 
@@ -31,7 +25,7 @@ pub returns-then-value-greatest : goal.returns-then-value-greatest
 returns-then-value-greatest c =
     let bs = c.args.bytes.now in
     let ds = c.split_at.result.0.now in
-    let front : ds ≡ take (prefix_len is_ascii_digit bs) bs = c.split_at.ensures.front ∙ ap (λ n. take n bs) c.digit_count.ensures in
+    let front : ds ≡ take (prefix_len is_ascii_digit bs) bs = c.split_at.ensures.front ∙ ap (λ n. take n bs) c.digit_count.ensures.value in
     let text = text_is (λ e. IsValidUpTo ds (valid_up_to e)) ds c.from_utf8.result c.from_utf8.ensures.cases c.in_ok-ok.field-0 c.in_ok-ok.ensures.value in
     number_over c.args.places c.args.greatest bs ds front c.parse.result _ text c.parse.ensures.value.0 c.in_ok-value.value c.in_ok-value.ensures.value (omega arith)
 
@@ -39,7 +33,7 @@ pub returns : goal.returns
 returns c =
     let bs = c.args.bytes.now in
     let ds = c.split_at.result.0.now in
-    let front : ds ≡ take (prefix_len is_ascii_digit bs) bs = c.split_at.ensures.front ∙ ap (λ n. take n bs) c.digit_count.ensures in
+    let front : ds ≡ take (prefix_len is_ascii_digit bs) bs = c.split_at.ensures.front ∙ ap (λ n. take n bs) c.digit_count.ensures.value in
     let text = text_is (λ e. IsValidUpTo ds (valid_up_to e)) ds c.from_utf8.result c.from_utf8.ensures.cases c.in_ok-ok.field-0 c.in_ok-ok.ensures.value in
     number_read c.args.places c.args.greatest bs ds front c.parse.result _ text c.parse.ensures.value.0 c.in_ok-value.value c.in_ok-value.ensures.value (omega (arith, c.split_at.ensures.front_len)) (omega arith)
-    ∙ ap (λ rest. Some (c.in_ok-value.value, rest)) (ap (λ n. drop n bs) (sym c.digit_count.ensures) ∙ sym c.split_at.ensures.back)
+    ∙ ap (λ rest. Some (c.in_ok-value.value, rest)) (ap (λ n. drop n bs) (sym c.digit_count.ensures.value) ∙ sym c.split_at.ensures.back)

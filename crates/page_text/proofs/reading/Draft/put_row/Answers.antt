@@ -1,17 +1,8 @@
 use Rattle.std.proofs.Common.{◌≡◌, ◌-◌, ◌<◌, length, get_or, refl, inl, inr, subst, arith, rules}
 use Rattle.std.specs.Prelude.{IfSome, vec_len, vec_items}
 use Rattle.page_text.specs.Code.{reading}
-use Rattle.page_text.proofs.DraftPages.{refused, row_refused, row_taken}
+use Rattle.page_text.proofs.DraftPages.{row_taken}
 use Rattle.page_text.proofs.reading.Draft.put_row.Goals as goal
-
-pub returns-then-self-index : goal.returns-then-self-index
-returns-then-self-index c = (row_refused c.args.row.number c.from-index.result c.args.row.letters.now (reading c.args.self.now) c.from-index.ensures (inr c.if-self-index.true), refl, refl)
-
-pub returns-in_err-page : goal.returns-in_err-page
-returns-in_err-page c =
-    let d = c.args.self.now in
-    let none : length (vec_items d.pages) ≡ 0 = grind (arith, c.in_err-page.ensures.ok_part, c.last_mut.ensures.variant, d.pages.ok.0) in
-    refused _ d c.args.place c.from_residual.result (row_refused c.args.row.number c.from-index.result c.args.row.letters.now (reading d) c.from-index.ensures (inl none)) (grind arith)
 
 pub returns : goal.returns
 returns c =
@@ -20,4 +11,4 @@ returns c =
     let is = c.in_ok-page.ensures.ok_part in
     let at = subst (λ o. IfSome o (λ x. x.now ≡ get_or (vec_items d.pages) (vec_len d.pages - 1) x.now)) is c.last_mut.ensures.value in
     let some : 0 < vec_len d.pages = search (rules, is, c.last_mut.ensures.variant) in
-    row_taken c.args.row.number c.from-index.result c.args.row.letters.now (reading d) c.from-index.ensures (vec_len d.pages - 1) p.now c.set_row.new.self (omega (arith, d.pages.ok.0)) c.if-self-index.false at c.set_row.ensures.number c.set_row.ensures.version c.set_row.ensures.letters
+    row_taken c.args.row.number c.from-index.result c.args.row.letters.now (reading d) (vec_len d.pages - 1) p.now c.set_row.new.self c.from-index.ensures (omega (arith, d.pages.ok.0)) c.if-self-index.false at c.set_row.ensures.number c.set_row.ensures.version c.set_row.ensures.letters
