@@ -7,7 +7,7 @@ use Rattle.std.specs.declared.io.ErrorKind.TheVariants.{InvalidData}
 use Rattle.text.specs.Number.{number_in}
 
 -- a number within bounds, and not given twice
-abbrev pub first_number : Option ℕ → (least greatest : ℕ) → List ℕ → Option ℕ
+abbrev pub first_number : {A : Type 0} → Option A → (least greatest : ℕ) → List ℕ → Option ℕ
 first_number before least greatest word = cond (is_some before) None (number_in least greatest word)
 
 -- what is said of arguments that could not be read: none of them is known if one isn't UTF-8, and any other error is passed on

@@ -157,7 +157,6 @@ impl Options {
 fn first_byte(before: Option<u8>, least: u8, greatest: u8, word: &str) -> Option<u8>
     ensures { result ≡ first_number before least greatest word.now }
 {
-    let before = before.map(u64::from);
     let number = first_number(before, u64::from(least), u64::from(greatest), word)?;
     u8::try_from(number).ok()
 }

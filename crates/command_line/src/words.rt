@@ -66,8 +66,8 @@ pub fn status_of(said: anyhow::Result<()>) -> ExitCode
 }
 
 // The number that a word gives, between two others, where none was given before.
-pub(crate) fn first_number(
-    before: Option<u64>,
+pub(crate) fn first_number<N: Copy>(
+    before: Option<N>,
     least: u64,
     greatest: u64,
     word: &str,
