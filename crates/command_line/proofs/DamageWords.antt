@@ -1,7 +1,6 @@
 -- Lemmas on the words of a command line: how they are compared, and what each adds to what was asked for. Assumes nothing.
-use Rattle.std.proofs.Common.{◌≡◌, ℕ, ◌≤◌, Bool, true, false, List, [], ◌∷◌, map, length, drop, Some, None, codes, Option, ap, ◌∙◌}
+use Rattle.std.proofs.Common.{◌≡◌, ℕ, Bool, true, false, List, [], ◌∷◌, Some, None, codes, Option, refl, ap, ◌∙◌}
 use Rattle.std.specs.Str.{bytes_eq}
-use Rattle.std.proofs.lemmas.List.{drop_all}
 use Rattle.std.proofs.lemmas.Bool.{cond-true, cond-false}
 use Rattle.text.proofs.Words.{is_word, not_word, same_word as equal_word, other_word as unequal-word}
 use Rattle.command_line.specs.Damage.{number_of, with_setting, set_by, with_settings, asked}
@@ -48,6 +47,6 @@ unfolding with_settings set_by
 one_setting s t w n k ask e d = ap (λ o. with_settings (set_by s w o) ask) e ∙ ap (λ o. with_settings o ask) d
 
 -- no words are left
-pub at_end : {W : Type 0} (f : W → List ℕ) (s : Settings) (ws : List W) (at : ℕ) → length ws ≤ at → asked s (map f (drop at ws)) ≡ Some (Damage s)
+pub at_end : (s : Settings) → asked s [] ≡ Some (Damage s)
 unfolding asked
-at_end f s ws at h = ap (λ xs. asked s (map f xs)) (drop_all at ws h)
+at_end s = refl

@@ -1,6 +1,5 @@
 -- Lemmas on the words of a command line: what each word adds to what was asked for.
-use Rattle.std.proofs.Common.{◌≡◌, ℕ, ◌≤◌, List, [], ◌∷◌, map, length, drop, Some, None, codes, Option, unwrap_or, ap, ◌∙◌}
-use Rattle.std.proofs.lemmas.List.{drop_all}
+use Rattle.std.proofs.Common.{◌≡◌, ℕ, List, [], ◌∷◌, Some, None, codes, Option, unwrap_or, refl, ap, ◌∙◌}
 use Rattle.std.proofs.lemmas.Bool.{cond-true, cond-false}
 use Rattle.text.proofs.Words.{same_word, other_word}
 use Rattle.command_line.specs.Send.{Asked, help, send, wrong, first_rounds, with_number, asked_behind}
@@ -37,6 +36,6 @@ unfolding with_number
 with_none o f e = ap (λ x. with_number x f) e
 
 -- no words are left
-pub at_end : {W : Type 0} (f : W → List ℕ) (k : Option ℕ) (ws : List W) (at : ℕ) → length ws ≤ at → asked_behind k (map f (drop at ws)) ≡ send (unwrap_or k 1)
+pub at_end : (k : Option ℕ) → asked_behind k [] ≡ send (unwrap_or k 1)
 unfolding asked_behind
-at_end f k ws at h = ap (λ xs. asked_behind k (map f xs)) (drop_all at ws h)
+at_end k = refl

@@ -1,19 +1,21 @@
 -- Lemmas on the words that are left of a command line, of whatever is asked of them. Assumes nothing.
-use Rattle.std.proofs.Common.{◌≡◌, ℕ, ◌+◌, ◌<◌, ◌≤◌, List, [], ◌∷◌, map, length, get_or, drop, sym, ap, ◌∙◌, arith}
-use Rattle.std.proofs.lemmas.List.{drop_all}
-use Rattle.text.proofs.Words.{word_at}
+use Rattle.std.proofs.Common.{◌≡◌, ℕ, List, [], ◌∷◌, map, length, ap, ◌∙◌, sym, subst}
+use Rattle.std.proofs.lemmas.List.{nil_from_length}
 
-module _ {A W : Type 0} (ask : List (List ℕ) → A) (f : W → List ℕ) (ws : List W) (at : ℕ) (x : W) (a : A) (inv : ask (map f (drop at ws)) ≡ a) (is : x ≡ get_or ws at x) where
-  -- one word, and those behind it
-  pub first_left : at < length ws → a ≡ ask (f x ∷ map f (drop (at + 1) ws))
-  first_left h = sym inv ∙ ap ask (word_at f ws at x h is)
+module _ {A W : Type 0} (ask : List (List ℕ) → A) (f : W → List ℕ) (ws : List W) (a : A) (inv : ask (map f ws) ≡ a) where
+  -- no word
+  pub none_left : length ws ≡ 0 → ask [] ≡ a
+  none_left none = ap (λ l. ask (map f l)) (sym (nil_from_length ws none)) ∙ inv
 
-  -- one word, and none behind it
-  pub last_left : at < length ws → length ws ≤ at + 1 → a ≡ ask (f x ∷ [])
-  last_left h end = first_left h ∙ ap (λ r. ask (f x ∷ map f r)) (drop_all (at + 1) ws end)
+  module _ (x : W) (rest : List W) (is : ws ≡ x ∷ rest) (text : List ℕ) (value : text ≡ f x) where
+    -- one word, and those behind it
+    pub first_left : ask (text ∷ map f rest) ≡ a
+    first_left = ap (λ t. ask (t ∷ map f rest)) value ∙ ap (λ l. ask (map f l)) (sym is) ∙ inv
 
-  -- two words, and those behind them
-  pub two_left : (y : W) → at + 1 < length ws → y ≡ get_or ws (at + 1) y → a ≡ ask (f x ∷ f y ∷ map f (drop (at + 2) ws))
-  two_left y h there =
-      let two : at + 1 + 1 ≡ at + 2 = omega arith in
-      first_left (omega arith) ∙ ap (λ r. ask (f x ∷ r)) (word_at f ws (at + 1) y h there) ∙ ap (λ k. ask (f x ∷ f y ∷ map f (drop k ws))) two
+    -- one word, and none behind it
+    pub last_left : length rest ≡ 0 → ask (text ∷ []) ≡ a
+    last_left none = ap (λ l. ask (text ∷ map f l)) (sym (nil_from_length rest none)) ∙ first_left
+
+    -- two words, and those behind them
+    pub two_left : (y : W) (more : List W) (also : List ℕ) → rest ≡ y ∷ more → also ≡ f y → ask (text ∷ also ∷ map f more) ≡ a
+    two_left y more also next second = ap (λ t. ask (text ∷ t ∷ map f more)) second ∙ ap (λ l. ask (text ∷ map f l)) (sym next) ∙ first_left

@@ -1,3 +1,5 @@
 pub mod Damage
+pub mod Input
 pub mod Receive
 pub mod Send
+pub mod Words

@@ -3,6 +3,7 @@ use Rattle.std.specs.Prelude.{◌≡◌, ℕ, cond, ◌||◌, List, [], ◌∷�
 use Rattle.std.specs.declared.alloc.Global.{Global}
 use Rattle.std.specs.Str.{bytes_eq}
 use Rattle.text.specs.Number.{number_in}
+use Rattle.command_line.specs.Words.{first_number}
 use Rattle.command_line.specs.declared.receive.Command.{Command}
 use Rattle.command_line.specs.declared.receive.Command.TheVariants.{Help, Receive}
 use Rattle.command_line.specs.declared.receive.Options.{Options}
@@ -33,10 +34,6 @@ abbrev pub named : List ℕ → Option Valued
 named word =
     cond (bytes_eq word (codes "--slots")) (Some Slots)
     (cond (bytes_eq word (codes "--store")) (Some Store) (cond (bytes_eq word (codes "--follow")) (Some Follow) None))
-
--- a number within bounds, and not given twice
-abbrev pub first_number : Option ℕ → (least greatest : ℕ) → List ℕ → Option ℕ
-first_number before least greatest word = cond (is_some before) None (number_in least greatest word)
 
 -- the name of a file, which isn't empty and not given twice
 abbrev pub first_file : Option (List ℕ) → List ℕ → Option (List ℕ)

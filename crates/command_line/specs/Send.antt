@@ -1,8 +1,8 @@
 -- The command line: what the words behind the program's name ask for. Assumes nothing: these are definitions.
-use Rattle.std.specs.Prelude.{ℕ, ◌-◌, ◌^◌, cond, List, [], ◌∷◌, is_some, Some, None, codes, Option}
+use Rattle.std.specs.Prelude.{ℕ, ◌-◌, ◌^◌, cond, List, [], ◌∷◌, Some, None, codes, Option}
 use Rattle.std.specs.Option.{unwrap_or}
 use Rattle.std.specs.Str.{bytes_eq}
-use Rattle.text.specs.Number.{number_in}
+use Rattle.command_line.specs.Words.{first_number}
 use Rattle.command_line.specs.declared.send.Command.{Command}
 use Rattle.command_line.specs.declared.send.Command.TheVariants.{Help, Send}
 
@@ -14,7 +14,7 @@ pub data Asked : Type 0 where
 
 -- the rounds are a number of 64 bits, and not given twice
 abbrev pub first_rounds : Option ℕ → List ℕ → Option ℕ
-first_rounds before word = cond (is_some before) None (number_in 0 (2 ^ 64 - 1) word)
+first_rounds before word = first_number before 0 (2 ^ 64 - 1) word
 
 -- what is asked for with a number, if there is one
 unfoldable pub with_number : Option ℕ → (ℕ → Asked) → Asked

@@ -2,9 +2,8 @@
 ghost use Rattle.std.specs.Prelude.{◌≡◌, map, string_bytes};
 ghost use Rattle.command_line.specs.Damage.{defaults, with_setting, asked};
 
+use crate::words::HELP;
 use text::number::read_number;
-
-const HELP: &str = "--help";
 
 const SEED: &str = "--seed";
 
@@ -15,7 +14,7 @@ const NUMBERS: &str = "--numbers";
 const LETTERS: &str = "--letters";
 
 // The seed, and how many of a thousand lines are lost, and of a thousand bytes of numbers and of letters damaged.
-#[derive(Clone, Copy)]
+#[derive(Clone, Copy, Debug, PartialEq, Eq)]
 pub struct Settings {
     pub seed: u64,
     pub lose: u64,
@@ -24,17 +23,17 @@ pub struct Settings {
 }
 
 // What a command line asks for.
-#[derive(Clone, Copy)]
+#[derive(Clone, Copy, Debug, PartialEq, Eq)]
 pub enum Command {
     Help,
     Damage(Settings),
 }
 
-impl Settings {
-    // What holds where nothing is given.
-    fn new() -> Settings
-        ensures { result ≡ defaults }
-    {
+// What holds where nothing is given.
+impl Default for Settings {
+    ghost is_default = { λ settings. settings ≡ defaults };
+
+    fn default() -> Settings {
         Settings {
             seed: 1,
             lose: 50,
@@ -42,25 +41,22 @@ impl Settings {
             letters: 50,
         }
     }
+}
 
+impl Settings {
     // The settings with one given by its word; none if there is no such word.
     #[tactic(auto, unfolding(crate::specs::Damage::with_setting))]
-    fn with(self, word: &str, number: u64) -> Option<Settings>
+    fn with(mut self, word: &str, number: u64) -> Option<Settings>
         ensures { result ≡ with_setting self word.now number }
     {
-        let mut settings = self;
-        if word == SEED {
-            settings.seed = number;
-        } else if word == LOSE {
-            settings.lose = number;
-        } else if word == NUMBERS {
-            settings.numbers = number;
-        } else if word == LETTERS {
-            settings.letters = number;
-        } else {
-            return None;
+        match word {
+            SEED => self.seed = number,
+            LOSE => self.lose = number,
+            NUMBERS => self.numbers = number,
+            LETTERS => self.letters = number,
+            _ => return None,
         }
-        Some(settings)
+        Some(self)
     }
 }
 
@@ -68,19 +64,15 @@ impl Settings {
 pub fn read_command(words: &[String]) -> Option<Command>
     ensures { result ≡ asked defaults (map string_bytes words.now) }
 {
-    let mut settings = Settings::new();
-    let mut at = 0;
-    while at < words.len() {
-        let word = words[at].as_str();
+    let mut settings = Settings::default();
+    let mut words = words.iter();
+    while let Some(word) = words.next() {
+        let word = word.as_str();
         if word == HELP {
             return Some(Command::Help);
         }
-        if words.len() - at < 2 {
-            return None;
-        }
-        let number = read_number(words[at + 1].as_str(), 0, u64::MAX)?;
+        let number = read_number(words.next()?.as_str(), 0, u64::MAX)?;
         settings = settings.with(word, number)?;
-        at += 2;
     }
     Some(Command::Damage(settings))
 }

@@ -2,6 +2,7 @@
 #![tactic(auto)]
 
 pub mod damage;
+pub mod input;
 pub mod receive;
 pub mod send;
 pub mod words;

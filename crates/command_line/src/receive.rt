@@ -1,13 +1,12 @@
 // The command line: `receive_pages [--slots N] [--store FILE] [--follow PAGE] [PAGE ..]`.
 ghost use Rattle.std.specs.Prelude.{◌≡◌, map, Some, string_bytes, MatchResult};
 ghost use Rattle.command_line.specs.declared.receive.OptionsError.TheVariants.{Memory};
-ghost use Rattle.command_line.specs.Receive.{asked, meant, Says, given, nothing, named, with_value, with_page, first_number, Denies};
+ghost use Rattle.command_line.specs.Receive.{asked, meant, Says, given, nothing, named, with_value, with_page, Denies};
+ghost use Rattle.command_line.specs.Words.{first_number};
 
+use crate::words::{HELP, first_number};
 use std::alloc::{AllocError, AllocFailed, Global};
 use store::MOST_SLOTS;
-use text::number::read_number;
-
-const HELP: &str = "--help";
 
 const SLOTS: &str = "--slots";
 
@@ -18,7 +17,7 @@ const FOLLOW: &str = "--follow";
 const LAST_PAGE: u8 = 255;
 
 // What to receive into, and what to print.
-#[derive(Drop)]
+#[derive(Drop, Debug, PartialEq, Eq)]
 pub struct Options {
     // The slots of the store, if they are given.
     pub slots: Option<u8>,
@@ -31,14 +30,14 @@ pub struct Options {
 }
 
 // What a command line asks for.
-#[derive(Drop)]
+#[derive(Drop, Debug, PartialEq, Eq)]
 pub enum Command {
     Help,
     Receive(Options),
 }
 
 // An option that has a value, the word behind it.
-#[derive(Clone, Copy)]
+#[derive(Clone, Copy, Debug, PartialEq, Eq)]
 pub enum Valued {
     Slots,
     Store,
@@ -46,7 +45,7 @@ pub enum Valued {
 }
 
 // Why a command line isn't followed.
-#[derive(Drop)]
+#[derive(Clone, Copy, Drop, Debug, PartialEq, Eq)]
 pub enum OptionsError {
     // Its words are wrong.
     Wrong,
@@ -73,58 +72,49 @@ impl<T: Drop> From<AllocFailed<T>> for OptionsError {
 pub fn read_command(heap: Global, words: &[String]) -> Result<Command, OptionsError>
     ensures { MatchResult result (λ command. asked (map string_bytes words.now) ≡ meant command) (λ e. Says e (asked (map string_bytes words.now))) }
 {
-    let mut options = no_options(heap);
-    // the option whose value is the next word
-    let mut open = None;
-    for word in words {
+    let mut options = Options::new(heap);
+    let mut words = words.iter();
+    while let Some(word) = words.next() {
         let word = word.as_str();
-        if let Some(option) = open {
-            options = options.with_value(heap, option, word)?;
-            open = None;
-        } else {
-            if word == HELP {
-                return Ok(Command::Help);
-            }
-            open = valued_option(word);
-            if open.is_none() {
-                options = options.with_page(word)?;
-            }
+        if word == HELP {
+            return Ok(Command::Help);
         }
+        options = match valued_option(word) {
+            Some(option) => {
+                let value = words.next().ok_or(OptionsError::Wrong)?;
+                options.with_value(heap, option, value.as_str())?
+            }
+            None => options.with_page(word)?,
+        };
     }
-    match open {
-        Some(_) => Err(OptionsError::Wrong),
-        None => Ok(Command::Receive(options)),
-    }
-}
-
-// The options of a command line with no word.
-fn no_options(heap: Global) -> Options
-    ensures { given result ≡ nothing }
-{
-    Options {
-        slots: None,
-        store: None,
-        follow: None,
-        pages: Vec::new(heap),
-    }
+    Ok(Command::Receive(options))
 }
 
 // The option that a word names, if the option has a value.
 fn valued_option(word: &str) -> Option<Valued>
     ensures { result ≡ named word.now }
 {
-    if word == SLOTS {
-        Some(Valued::Slots)
-    } else if word == STORE {
-        Some(Valued::Store)
-    } else if word == FOLLOW {
-        Some(Valued::Follow)
-    } else {
-        None
+    match word {
+        SLOTS => Some(Valued::Slots),
+        STORE => Some(Valued::Store),
+        FOLLOW => Some(Valued::Follow),
+        _ => None,
     }
 }
 
 impl Options {
+    // The options of a command line with no word.
+    fn new(heap: Global) -> Options
+        ensures { given result ≡ nothing }
+    {
+        Options {
+            slots: None,
+            store: None,
+            follow: None,
+            pages: Vec::new(heap),
+        }
+    }
+
     // The options with the value of one more, which wasn't given before.
     fn with_value(
         mut self,
@@ -136,10 +126,8 @@ impl Options {
     {
         match option {
             Valued::Slots => {
-                let Some(slots) = first_number(self.slots, 1, MOST_SLOTS as u8, value) else {
-                    return Err(OptionsError::Wrong);
-                };
-                self.slots = Some(slots);
+                let slots = first_byte(self.slots, 1, MOST_SLOTS as u8, value);
+                self.slots = Some(slots.ok_or(OptionsError::Wrong)?);
             }
             Valued::Store => {
                 if self.store.is_some() || value.is_empty() {
@@ -148,10 +136,8 @@ impl Options {
                 self.store = Some(String::from_str(heap, value)?);
             }
             Valued::Follow => {
-                let Some(page) = first_number(self.follow, 0, LAST_PAGE, value) else {
-                    return Err(OptionsError::Wrong);
-                };
-                self.follow = Some(page);
+                let page = first_byte(self.follow, 0, LAST_PAGE, value);
+                self.follow = Some(page.ok_or(OptionsError::Wrong)?);
             }
         }
         Ok(self)
@@ -161,23 +147,16 @@ impl Options {
     fn with_page(mut self, word: &str) -> Result<Options, OptionsError>
         ensures { MatchResult result (λ options. with_page word.now (given self) ≡ Some (given options)) (λ e. Denies e (with_page word.now (given self))) }
     {
-        let Some(page) = first_number(None, 0, LAST_PAGE, word) else {
-            return Err(OptionsError::Wrong);
-        };
-        self.pages.push(page)?;
+        let page = first_byte(None, 0, LAST_PAGE, word);
+        self.pages.push(page.ok_or(OptionsError::Wrong)?)?;
         Ok(self)
     }
 }
 
-// The number that a word gives, between two others, where none was given before.
-fn first_number(before: Option<u8>, least: u8, greatest: u8, word: &str) -> Option<u8>
+// The number of 8 bits that a word gives, between two others, where none was given before.
+fn first_byte(before: Option<u8>, least: u8, greatest: u8, word: &str) -> Option<u8>
     ensures { result ≡ first_number before least greatest word.now }
 {
-    if before.is_some() {
-        return None;
-    }
-    match read_number(word, least as u64, greatest as u64) {
-        Some(number) => Some(number as u8),
-        None => None,
-    }
+    let number = first_number(before, u64::from(least), u64::from(greatest), word)?;
+    u8::try_from(number).ok()
 }

@@ -3,12 +3,12 @@
 
 mod passing;
 
-use channel::Random;
 use command_line::damage::{Command, Settings, read_command};
-use command_line::words::{refuse_words, status_of};
-use passing::pass_row;
+use command_line::input::each_line;
+use command_line::words::{behind_name, print_usage, refuse};
+use passing::Air;
 use std::env;
-use std::io::{BufRead, BufReader, Write};
+use std::io::{BufReader, Write};
 use std::process::ExitCode;
 
 const USAGE: &str = "usage: damage_lines [--seed N] [--lose N] [--numbers N] [--letters N]
@@ -21,53 +21,29 @@ What isn't a line of 46 bytes is written as it is.";
 const WRITTEN_AT: usize = 65536;
 
 fn main(rt: HostRuntime) -> anyhow::Result<ExitCode> {
-    let words = read_words(&rt)?;
+    let words = behind_name(rt.alloc(), env::args(&rt)?)?;
     match read_command(words.as_slice()) {
-        Some(Command::Help) => print_usage(&rt)?,
-        Some(Command::Damage(settings)) => run(&rt, &settings)?,
-        // wrong words end with the usage, and nothing more is said
-        None => return Ok(status_of(refuse_words(&rt, USAGE))),
-    }
-    Ok(ExitCode::SUCCESS)
-}
-
-// The words of the command line behind the program's name.
-fn read_words(rt: &HostRuntime) -> anyhow::Result<Vec<String>> {
-    let words = env::args(rt)?.skip(1).collect(rt.alloc())?;
-    Ok(words)
-}
-
-fn print_usage(rt: &HostRuntime) -> anyhow::Result<()> {
-    rt.println(USAGE)?;
-    Ok(())
-}
-
-// Takes each row of the input, and writes what comes of it. Memory is kept from row to row.
-fn run(rt: &HostRuntime, settings: &Settings) -> anyhow::Result<()> {
-    let mut input = BufReader::new(rt.alloc(), rt.stdin())?;
-    let mut random = Random::new(settings.seed);
-    let mut row = Vec::new(rt.alloc());
-    let mut bytes = Vec::new(rt.alloc());
-    let mut hex = String::new(rt.alloc());
-    let mut out = Vec::new(rt.alloc());
-    for _number in 0..u64::MAX {
-        row.clear();
-        if input.read_until(b'\n', &mut row)? == 0 {
-            break;
+        Some(Command::Help) => print_usage(&rt, USAGE),
+        Some(Command::Damage(settings)) => {
+            run(&rt, settings)?;
+            Ok(ExitCode::SUCCESS)
         }
-        pass_row(
-            row.as_slice(),
-            settings,
-            &mut random,
-            &mut bytes,
-            &mut hex,
-            &mut out,
-        )?;
-        if out.len() >= WRITTEN_AT {
-            rt.stdout().write_all(out.as_slice())?;
-            out.clear();
-        }
+        None => Ok(refuse(&rt, USAGE)),
     }
-    rt.stdout().write_all(out.as_slice())?;
+}
+
+// Takes each row of the input, and writes what comes of it.
+fn run(rt: &HostRuntime, settings: Settings) -> anyhow::Result<()> {
+    let input = BufReader::new(rt.alloc(), rt.stdin())?;
+    let mut air = Air::new(rt.alloc(), settings);
+    each_line(rt.alloc(), input, |_number, row| -> anyhow::Result<()> {
+        air.pass_row(row)?;
+        if air.out.len() >= WRITTEN_AT {
+            rt.stdout().write_all(air.out.as_slice())?;
+            air.out.clear();
+        }
+        Ok(())
+    })?;
+    rt.stdout().write_all(air.out.as_slice())?;
     Ok(())
 }

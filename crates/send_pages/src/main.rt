@@ -3,54 +3,31 @@
 
 mod sending;
 
-use anyhow::anyhow;
 use command_line::send::{Command, read_command};
-use command_line::words::{refuse_words, status_of};
+use command_line::words::{behind_name, if_utf8, print_usage, refuse};
 use page_text::{Page, TextError, read_pages};
-use sender::Schedule;
-use sending::write_round;
+use sending::Sending;
+use std::env;
 use std::io::Read;
 use std::process::ExitCode;
-use std::{env, io};
 
 const USAGE: &str = "usage: send_pages [--rounds N]
 Reads a page text from standard input, and writes the lines of its pages in hex,
 row 0 of each page, then row 1 of each and so on, N times (once if not given).";
 
-// A text is refused with this number.
-const REFUSED_TEXT: u64 = 3;
-
 // Lines are written out once there is so much of them.
 const WRITTEN_AT: usize = 65536;
 
 fn main(rt: HostRuntime) -> anyhow::Result<ExitCode> {
-    let words = match read_words(&rt) {
-        Ok(words) => words,
-        // a word that isn't UTF-8 is none that is known
-        Err(e) if e.kind() == io::ErrorKind::InvalidData => return Ok(refuse(&rt)),
-        Err(e) => return Err(e.into()),
+    let Some(args) = if_utf8(env::args(&rt))? else {
+        return Ok(refuse(&rt, USAGE));
     };
+    let words = behind_name(rt.alloc(), args)?;
     match read_command(words.as_slice()) {
-        Some(Command::Help) => print_usage(&rt),
+        Some(Command::Help) => print_usage(&rt, USAGE),
         Some(Command::Send(rounds)) => run(&rt, rounds),
-        None => Ok(refuse(&rt)),
+        None => Ok(refuse(&rt, USAGE)),
     }
-}
-
-// Wrong words end with the usage, and nothing more is said.
-fn refuse(rt: &HostRuntime) -> ExitCode {
-    status_of(refuse_words(rt, USAGE))
-}
-
-// The words of the command line behind the program's name.
-fn read_words(rt: &HostRuntime) -> io::Result<Vec<String>> {
-    let words = env::args(rt)?.skip(1).collect(rt.alloc())?;
-    Ok(words)
-}
-
-fn print_usage(rt: &HostRuntime) -> anyhow::Result<ExitCode> {
-    rt.println(USAGE)?;
-    Ok(ExitCode::SUCCESS)
 }
 
 // Reads the text, and sends its pages; a text that can't be read is refused with its first bad line.
@@ -61,11 +38,18 @@ fn run(rt: &HostRuntime, rounds: u64) -> anyhow::Result<ExitCode> {
             send(rt, pages.as_slice(), rounds)?;
             Ok(ExitCode::SUCCESS)
         }
-        Err(TextError::Refused(place)) => {
-            eprintln!(rt; "line {place}: refused {REFUSED_TEXT}, place {place}")?;
+        Err(e) => refuse_text(rt, e),
+    }
+}
+
+// Says which line of the text can't be read; that there is no memory is an error.
+fn refuse_text(rt: &HostRuntime, e: TextError) -> anyhow::Result<ExitCode> {
+    match e {
+        TextError::Refused(place) => {
+            eprintln!(rt; "line {place}: {e}")?;
             Ok(ExitCode::FAILURE)
         }
-        Err(TextError::Memory) => Err(anyhow!("no memory")),
+        TextError::Memory => Err(e.into()),
     }
 }
 
@@ -78,15 +62,14 @@ fn read_input(rt: &HostRuntime) -> anyhow::Result<Vec<u8>> {
 
 // Goes round over the pages, and writes their lines.
 fn send(rt: &HostRuntime, pages: &[Page], rounds: u64) -> anyhow::Result<()> {
-    let mut schedule = Schedule { page: 0, row: 0 };
-    let mut lines = String::new(rt.alloc());
+    let mut sending = Sending::new(rt.alloc(), pages);
     for _round in 0..rounds {
-        write_round(pages, &mut schedule, &mut lines)?;
-        if lines.len() >= WRITTEN_AT {
-            rt.print(lines.as_str())?;
-            lines.clear();
+        sending.write_round()?;
+        if sending.lines.len() >= WRITTEN_AT {
+            rt.print(sending.lines.as_str())?;
+            sending.lines.clear();
         }
     }
-    rt.print(lines.as_str())?;
+    rt.print(sending.lines.as_str())?;
     Ok(())
 }

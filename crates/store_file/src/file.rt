@@ -1,8 +1,10 @@
 // A store's file read.
-ghost use Rattle.std.specs.Prelude.{◌≡◌, ◌≤◌, IfSome, IfNone, IfOk, vec_len, MatchOption};
-ghost use Rattle.store_file.specs.StoreFile.{Judged, no_pages, most_read};
+ghost use Rattle.std.specs.Prelude.{◌≡◌, ◌≤◌, IfSome, IfOk, vec_len, MatchOption, MatchResult};
+ghost use Rattle.std.specs.declared.io.Error.{Error};
+ghost use Rattle.store_file.specs.declared.file.OpenError.TheVariants.{Io, Unfit};
+ghost use Rattle.store_file.specs.StoreFile.{Held, Judged, Denies, no_pages, most_read};
 
-use crate::contents::{Contents, check_contents, new_store};
+use crate::contents::{Unusable, check_contents, new_store};
 use std::alloc::{AllocError, Global};
 use std::io::Read;
 use std::{fs, io};
@@ -11,25 +13,54 @@ use store::{MOST_SLOTS, SLOT_SIZE};
 // So many bytes of a file are read: one more than a store has, so that a file that is too long is seen to be.
 const MOST_READ: usize = SLOT_SIZE * MOST_SLOTS + 1;
 
-// The bytes of a store, and whether they can be received into.
+// Why there is no store to receive into.
 #[derive(Drop)]
-pub struct Opened {
-    pub store: Vec<u8>,
-    pub contents: Contents,
+pub enum OpenError {
+    // The file can't be read, or there is no memory.
+    Io(io::Error),
+    // What the file holds is none.
+    Unfit(Unusable),
+}
+
+impl From<io::Error> for OpenError {
+    ghost from_gives = { λ e r. r ≡ Io e };
+
+    fn from(e: io::Error) -> OpenError {
+        OpenError::Io(e)
+    }
+}
+
+impl From<AllocError> for OpenError {
+    ghost from_gives = { λ _ r. (e : Error) × (r ≡ Io e) };
+
+    fn from(e: AllocError) -> OpenError {
+        OpenError::Io(e.into())
+    }
+}
+
+impl From<Unusable> for OpenError {
+    ghost from_gives = { λ why r. r ≡ Unfit why };
+
+    fn from(why: Unusable) -> OpenError {
+        OpenError::Unfit(why)
+    }
 }
 
 // The store of a file, if one is named and is there, or else a new one; either is checked.
-pub fn open_store(rt: &HostRuntime, path: Option<&str>, slots: Option<u8>) -> io::Result<Opened>
-    ensures judged { IfOk result (λ opened. Judged opened.store.items slots opened.contents) }
-    ensures unnamed { IfOk result (λ opened. IfNone path.entry (opened.store.items ≡ no_pages slots)) }
+pub fn open_store(
+    rt: &HostRuntime,
+    path: Option<&str>,
+    slots: Option<u8>,
+) -> Result<Vec<u8>, OpenError>
+    ensures { MatchResult result (λ store. Held path.entry slots store.items × Judged store.items slots (Ok tt)) (λ e. Denies path.entry slots e) }
 {
     let kept = match path {
         Some(path) => read_file(rt, path)?,
         None => None,
     };
     let store = kept_or_new(rt.alloc(), kept, slots)?;
-    let contents = check_contents(store.as_slice(), slots);
-    Ok(Opened { store, contents })
+    check_contents(store.as_slice(), slots)?;
+    Ok(store)
 }
 
 // The bytes that a file held, or a new store if there was no file.
@@ -40,10 +71,7 @@ fn kept_or_new(
 ) -> Result<Vec<u8>, AllocError>
     ensures { IfOk result (λ store. MatchOption kept (store.items ≡ no_pages slots) (λ bytes. store.items ≡ bytes.items)) }
 {
-    match kept {
-        Some(bytes) => Ok(bytes),
-        None => new_store(heap, slots),
-    }
+    kept.map_or_else(|| new_store(heap, slots), Ok)
 }
 
 // The bytes of a file, if it is there. Of a file that is too long for a store, a byte too much is read and no more.

@@ -4,5 +4,5 @@
 mod contents;
 mod file;
 
-pub use contents::{Contents, check_contents, new_store};
-pub use file::{Opened, open_store, read_file};
+pub use contents::{Unusable, check_contents, new_store};
+pub use file::{OpenError, open_store, read_file};

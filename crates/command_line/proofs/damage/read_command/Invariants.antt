@@ -1,10 +1,11 @@
-use Rattle.std.proofs.Common.{◌≡◌, ◌-◌, map, length, drop, string_bytes}
+use Rattle.std.proofs.Common.{◌≡◌, map, length, string_bytes}
+use Rattle.std.specs.Slice.Iter.{iter_rest}
 use Rattle.command_line.specs.Damage.{defaults, asked}
 use Rattle.command_line.proofs.damage.read_command.Given as goal
 
 -- the words that are left ask, behind what was given, for what all the words ask for
-abbrev pub invariant-loop-at : goal.invariant-loop-at
-invariant-loop-at l = asked l.settings (map string_bytes (drop l.at l.words)) ≡ asked defaults (map string_bytes l.words)
+abbrev pub invariant-loop-word : goal.invariant-loop-word
+invariant-loop-word l = asked l.settings (map string_bytes (iter_rest l.words)) ≡ asked defaults (map string_bytes l.fn.words)
 
-abbrev pub decreases-loop-at : goal.decreases-loop-at
-decreases-loop-at l = length l.words - l.at
+abbrev pub decreases-loop-word : goal.decreases-loop-word
+decreases-loop-word l = length (iter_rest l.words)

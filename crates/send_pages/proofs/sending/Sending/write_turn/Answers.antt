@@ -1,19 +1,23 @@
-use Rattle.std.proofs.Common.{string_bytes}
+use Rattle.std.proofs.Common.{string_bytes, refl}
 use Rattle.send_pages.proofs.Turns.{text_of_none, text_of_turn}
-use Rattle.send_pages.proofs.sending.write_turn.Goals as goal
+use Rattle.send_pages.proofs.sending.Sending.write_turn.Goals as goal
 
 pub returns-in_ok-push_str : goal.returns-in_ok-push_str
 returns-in_ok-push_str c =
+    let s = c.args.self.now in
     record {
-      written = text_of_turn c.args.pages.now c.args.schedule.now c.in-Some.line
-          (string_bytes c.args.out.now) (string_bytes c.write_hex.new.out) (string_bytes c.push_str.new.self)
+      written = text_of_turn s.pages.now s.schedule c.in-Some.line
+          (string_bytes s.lines) _ _
           c.in-Some.ensures.bytes c.in_ok-write_hex.ensures.written c.in_ok-push_str.ensures.bytes;
       moved = c.next_line.ensures.moved;
+      same = refl;
     }
 
 pub returns-in_default : goal.returns-in_default
 returns-in_default c =
+    let s = c.args.self.now in
     record {
-      written = text_of_none c.args.pages.now c.args.schedule.now (string_bytes c.args.out.now) c.in_default.ensures.bytes;
+      written = text_of_none s.pages.now s.schedule (string_bytes s.lines) c.in_default.ensures.bytes;
       moved = c.next_line.ensures.moved;
+      same = refl;
     }
