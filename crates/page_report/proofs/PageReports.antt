@@ -1,5 +1,5 @@
 -- Lemmas on pages as they are printed.
-use Rattle.std.proofs.Common.{◌≡◌, ℕ, ◌+◌, ◌<◌, ◌≤◌, Bool, true, false, not, ◌&&◌, ltb, List, [], ◌∷◌, ◌++◌, length, get_or, drop, is_some, Some, None, Option, sym, refl, ap, ◌∙◌, subst, append_assoc, append-nil, add-one, arith, MatchOption}
+use Rattle.std.proofs.Common.{◌≡◌, ℕ, ◌+◌, ◌<◌, ◌≤◌, Bool, true, false, not, ◌&&◌, ltb, List, [], ◌∷◌, ◌++◌, length, get_or, drop, is_some, Some, None, Option, sym, refl, ap, ◌∙◌, subst, append_assoc, append-nil, add-one, MatchOption}
 use Rattle.line.specs.Size.{rows, columns}
 use Rattle.std.specs.Str.{bytes_eq}
 use Rattle.std.proofs.lemmas.List.FromFn.{fill_by_all}
@@ -9,7 +9,7 @@ use Rattle.std.proofs.lemmas.Bool.{and_parts, and_from, lt-ltb, cond-true, cond-
 use Rattle.store.specs.Layout.{well_formed, page_in}
 use Rattle.store.specs.Slots.{RowOf, has_row, VersionOf}
 use Rattle.text.specs.Screen.{shown}
-use Rattle.page_report.specs.Report.{row_letters, row_lines, heading_line, missing_line, page_report, shown_otherwise, pages_there, pages_printed, pages_report}
+use Rattle.page_report.specs.Report.{row_letters, row_lines, heading_line, missing_line, page_report, shown_otherwise, pages_there, pages_report}
 
 -- a row that is handed back is the row of the page
 pub row_is : (s : List ℕ) (n r : ℕ) (t : List ℕ) → (well_formed s && (page_in s n).there) ≡ true → r < rows → RowOf s n r t → t ≡ row_letters (page_in s n) r
@@ -84,12 +84,3 @@ module _ (s before now₁ : List ℕ) (k m : ℕ) (o : Option ℕ) (same : m ≡
 pub none_there : (s before : List ℕ) → before ≡ before ++ pages_report s (pages_there s 0)
 unfolding pages_there
 none_there s before = sym (append-nil before)
-
--- the pages to print, where some are asked for, and where none is
-pub printed_asked : (s ns : List ℕ) → (length ns ≡ 0 → ⊥) → ns ≡ pages_printed s ns
-printed_asked s [] some = absurd (some refl)
-printed_asked s (n ∷ ns) some = refl
-
-pub printed_there : (s ns : List ℕ) → length ns ≡ 0 → pages_there s 256 ≡ pages_printed s ns
-printed_there s [] none = refl
-printed_there s (n ∷ ns) none = absurd (omega arith)
