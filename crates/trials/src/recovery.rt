@@ -21,9 +21,10 @@ use store::{MOST_SLOTS, NO_LETTER, SLOT_SIZE, version};
 // How many pages are drawn from, and how many odd numbers for the distance of their numbers.
 const PAGES: u64 = 100;
 
+// How many versions.
 const VERSIONS: u64 = 4;
 
-// How often a slot is taken at most, in a thousand; where it is more than a thousand each slot is.
+// How often a slot is taken at most, in a thousand; above a thousand each slot is.
 const MOST_TAKEN: u64 = 1500;
 
 // How often a letter of the store is unknown, in a thousand.

@@ -13,7 +13,7 @@ use store::NO_LETTER;
 const NO_BITS: u8 = 0;
 
 // How many numbers of pages there are.
-const PAGES: usize = 256;
+pub(crate) const PAGES: usize = 256;
 
 const PAGE_LETTERS: usize = ROWS * COLUMNS;
 
