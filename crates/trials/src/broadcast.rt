@@ -10,7 +10,7 @@ use crate::draw::{draw_byte, draw_index};
 use crate::reference::PAGES;
 use crate::sent::Sent;
 use channel::{Random, Rates, turned_bits};
-use line::ROWS;
+use line::{Line, ROWS};
 use std::alloc::{AllocError, Global};
 use store::MOST_SLOTS;
 
@@ -89,7 +89,7 @@ impl Broadcast {
     }
 
     // The bits that are turned in a line.
-    pub fn draw_bits(&mut self) -> [u8; 46]
+    pub fn draw_bits(&mut self) -> [u8; Line::LENGTH]
         ensures { LineBy row_line self.old.rates.numbers self.old.rates.letters result }
     {
         turned_bits(&self.rates, &mut self.random)

@@ -178,7 +178,7 @@ fn lowest_bit(byte: u8) -> u8 {
 }
 
 // The rows of a page in any order.
-fn shuffled_rows(random: &mut Random) -> [u8; 25]
+fn shuffled_rows(random: &mut Random) -> [u8; ROWS]
     ensures { (k : ℕ) → k < 25 → slice_index result k < 25 }
 {
     let mut rows = array::from_fn(|k| k as u8);

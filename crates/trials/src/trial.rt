@@ -147,7 +147,7 @@ impl Receiving {
 }
 
 // A line with more bytes behind it.
-fn lengthened(line: &[u8; 46]) -> [u8; 60]
+fn lengthened(line: &[u8; Line::LENGTH]) -> [u8; LONGEST]
     ensures { (k : ℕ) → k < 46 → slice_index result k ≡ slice_index line.now k }
 {
     let mut bytes = [0; LONGEST];
