@@ -36,7 +36,8 @@ struct Receiving {
     reference: Reference,
 }
 
-// Sends the broadcast of a seed. (The heap and the tally are two arguments, since only this and `run_recovery` are given both, once each.) The line after which the store isn't as the reference has it, if there is one.
+// Sends the broadcast of a seed. The line after which the store isn't as the reference has it, if there is one.
+// The heap and the tally are two arguments: only this and `run_recovery` are given both, once each.
 pub fn run_trial(heap: Global, seed: u64, tally: &mut Tally) -> Result<Option<u64>, AllocError>
     ensures { IfOk result (λ line. IfSome line (λ at. at ≤ 1500)) }
 {
