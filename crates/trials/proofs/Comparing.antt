@@ -3,14 +3,14 @@ use Rattle.std.proofs.Common.{◌≡◌, ℕ, ◌+◌, ◌*◌, ◌/◌, ◌%◌
 use Rattle.std.proofs.lemmas.Bool.{both_ways, and_from, lt-ltb}
 use Rattle.std.proofs.lemmas.Bool.Decides.{Decides-like}
 use Rattle.std.proofs.lemmas.List.{get_or-take, get_or-drop}
-use Rattle.store.specs.Page.{Page, ShowsSame, no_page}
-use Rattle.store.specs.Layout.{slots, slot_bytes, mark_at, number_at, version_at, letter_at, holds, well_formed, page_in, FirstFault}
+use Rattle.store.specs.Page.{ShowsSame, no_page}
+use Rattle.store.specs.Layout.{slots, slot_bytes, mark_at, number_at, holds, well_formed, page_in, FirstFault}
 use Rattle.store.specs.Slots.{has_row, VersionOf}
 use Rattle.store.specs.Writes.{Found}
 use Rattle.store.proofs.Faults.{faulty}
 use Rattle.store.proofs.Formed.{holds_from, holds_parts}
 use Rattle.store.proofs.Pages.{shows_is, page_held, page_absent, page_there, absent_there, slot_cases, slot_version, slot_letter, none_there}
-use Rattle.trials.specs.Told.{told, letter_told, page_of, page_told}
+use Rattle.trials.specs.Told.{told, letter_told, page_of}
 use Rattle.trials.specs.Text.{text_letter}
 use Rattle.trials.specs.Same.{Same, TrueLetters, SlotSame, RowShown, PageShown}
 use Rattle.trials.specs.declared.reference.Reference.{Reference}

@@ -1,12 +1,11 @@
 -- The letters of the reference's pages, as lines are put over them. Assumes nothing.
-use Rattle.std.proofs.Common.{◌≡◌, ℕ, ◌+◌, ◌-◌, ◌*◌, ◌/◌, ◌%◌, ◌<◌, ◌≤◌, eqb, ◌⊎◌, List, length, length-take, min, get_or, set, take, drop, replicate, Option, Some, None, false, sym, refl, ap, ◌∙◌, subst, unwrap_or, inl, inr, ⊎_elim, arith, get_or-set_other, get_or-set_same, below_more}
+use Rattle.std.proofs.Common.{◌≡◌, ℕ, ◌+◌, ◌*◌, ◌/◌, ◌%◌, ◌<◌, ◌≤◌, eqb, List, length, length-take, min, get_or, set, take, drop, replicate, false, sym, ap, ◌∙◌, subst, ⊎_elim, arith, get_or-set_other, get_or-set_same, below_more}
 use lib.ListN.{get_or-replicate, length-replicate, get_or-eq_default}
 use Rattle.std.proofs.lemmas.List.{get_or-take, get_or-drop}
-use Rattle.std.proofs.lemmas.Bool.{cases_Bool, cases_lt, cases_eq, cond-true, cond-false}
+use Rattle.std.proofs.lemmas.Bool.{cases_lt, cond-false}
 use Rattle.trials.specs.Text.{text_letter}
-use Rattle.trials.specs.Told.{told, letter_told, letter_after, sent_at, OnlySent, AllSent, RowPut}
+use Rattle.trials.specs.Told.{letter_told, letter_after, sent_at, RowPut}
 use Rattle.trials.specs.declared.came.Came.{Came}
-use Rattle.trials.specs.declared.reference.ReferencePage.{ReferencePage}
 
 -- no letters
 pub none_known : (n k : ℕ) → let zeros : List ℕ = replicate n 0 in get_or zeros k 0 ≡ 0

@@ -7,17 +7,15 @@ ghost use Rattle.channel.specs.Random.{drawn_below, comes_about};
 ghost use Rattle.channel.specs.Air.{LineBy};
 
 use crate::draw::{draw_byte, draw_index};
+use crate::reference::PAGES;
 use crate::sent::Sent;
 use channel::{Random, Rates, turned_bits};
-use line::ROWS;
+use line::{Line, ROWS};
 use std::alloc::{AllocError, Global};
 use store::MOST_SLOTS;
 
 // How many lines are kept for later at most.
 const MOST_LATE: usize = 32;
-
-// How many numbers pages have.
-const PAGES: usize = 256;
 
 // How many pages there are at most.
 const MOST_PAGES: u64 = 80;
@@ -91,7 +89,7 @@ impl Broadcast {
     }
 
     // The bits that are turned in a line.
-    pub fn draw_bits(&mut self) -> [u8; 46]
+    pub fn draw_bits(&mut self) -> [u8; Line::LENGTH]
         ensures { LineBy row_line self.old.rates.numbers self.old.rates.letters result }
     {
         turned_bits(&self.rates, &mut self.random)
@@ -109,7 +107,7 @@ impl Broadcast {
         self.random.below(limit)
     }
 
-    // The line that comes next; none where one is lost on the way or kept for later.
+    // The line that comes next; none where one is lost on the way or comes late. One that comes late or twice is kept for later, if there is room.
     pub fn next_line(&mut self) -> Result<Option<Sent>, AllocError>
         ensures { IfOk result (λ line. IfSome line (λ sent. sent.row < 25)) }
     {
@@ -120,14 +118,11 @@ impl Broadcast {
         if self.random.chance(self.lost) {
             return Ok(None);
         }
-        if self.random.chance(IS_LATE) {
-            self.keep(sent)?;
-            return Ok(None);
+        let late = self.random.chance(IS_LATE);
+        if (late || self.random.chance(IS_TWICE)) && self.late.len() < MOST_LATE {
+            self.late.push(sent)?;
         }
-        if self.random.chance(IS_TWICE) {
-            self.keep(sent)?;
-        }
-        Ok(Some(sent))
+        Ok(if late { None } else { Some(sent) })
     }
 
     // A line as it is sent: any row of any of the pages, of which one may have got a new version.
@@ -145,16 +140,6 @@ impl Broadcast {
             version: self.versions[at],
             row: draw_byte(&mut self.random, ROWS as u64),
         }
-    }
-
-    // Keeps a line for later, if there is room.
-    fn keep(&mut self, sent: Sent) -> Result<(), AllocError>
-        requires { sent.row < 25 }
-    {
-        if self.late.len() < MOST_LATE {
-            self.late.push(sent)?;
-        }
-        Ok(())
     }
 
     // One of the lines that were kept, if there is one.

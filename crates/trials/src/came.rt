@@ -13,12 +13,12 @@ use line::Line;
 #[derive(Clone, Copy)]
 pub struct Came {
     pub sent: Sent,
-    pub bits: [u8; 46],
+    pub bits: [u8; Line::LENGTH],
 }
 
 impl Came {
     // The bytes that come.
-    pub(crate) fn bytes(&self) -> [u8; 46]
+    pub(crate) fn bytes(&self) -> [u8; Line::LENGTH]
         ensures { (line : Line) × LineOf self.now.sent line × Turned (encode_line line) self.now.bits result }
     {
         turn_bits(&self.sent.line().encode(), &self.bits)

@@ -9,9 +9,10 @@ use crate::reference::Reference;
 use receiver::Done;
 use store::{SLOT_SIZE, find_fault};
 
-// The mark of a slot that holds a page. It stands here again, for the trials look at the bytes of a store by themselves and don't trust its calls. For the same reason
-// the functions below are given a store and a reference, and not all of `Receiving`: they can't see the receiver's counts.
+// The mark of a slot that holds a page. It stands here again, for the trials look at the bytes of a store by themselves and don't trust its calls.
 pub(crate) const TAKEN: u8 = 1;
+
+// Here and in shown.rt a store and a reference are two arguments: all that holds both is `Receiving`, with the receiver's counts, which no comparison is to see.
 
 // Whether a store is well-formed and shows each page as the reference has it; then no letter in it is false.
 pub fn same_pages(store: &[u8], reference: &Reference) -> bool

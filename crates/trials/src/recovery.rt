@@ -21,9 +21,10 @@ use store::{MOST_SLOTS, NO_LETTER, SLOT_SIZE, version};
 // How many pages are drawn from, and how many odd numbers for the distance of their numbers.
 const PAGES: u64 = 100;
 
+// How many versions.
 const VERSIONS: u64 = 4;
 
-// How often a slot is taken at most, in a thousand; where it is more than a thousand each slot is.
+// How often a slot is taken at most, in a thousand; above a thousand each slot is.
 const MOST_TAKEN: u64 = 1500;
 
 // How often a letter of the store is unknown, in a thousand.
@@ -177,7 +178,7 @@ fn lowest_bit(byte: u8) -> u8 {
 }
 
 // The rows of a page in any order.
-fn shuffled_rows(random: &mut Random) -> [u8; 25]
+fn shuffled_rows(random: &mut Random) -> [u8; ROWS]
     ensures { (k : ℕ) → k < 25 → slice_index result k < 25 }
 {
     let mut rows = array::from_fn(|k| k as u8);

@@ -13,7 +13,7 @@ use store::NO_LETTER;
 const NO_BITS: u8 = 0;
 
 // How many numbers of pages there are.
-const PAGES: usize = 256;
+pub(crate) const PAGES: usize = 256;
 
 const PAGE_LETTERS: usize = ROWS * COLUMNS;
 
@@ -21,7 +21,7 @@ const PAGE_LETTERS: usize = ROWS * COLUMNS;
 #[derive(Clone, Copy)]
 pub struct ReferencePage {
     pub version: u8,
-    pub letters: [u8; 1000],
+    pub letters: [u8; PAGE_LETTERS],
 }
 
 // The pages that have to be in the store, each in its place by its number, and how many lines were lost or found no room. Each letter of a page was sent in the

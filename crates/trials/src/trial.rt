@@ -37,6 +37,7 @@ struct Receiving {
 }
 
 // Sends the broadcast of a seed. The line after which the store isn't as the reference has it, if there is one.
+// The heap and the tally are two arguments: only this and `run_recovery` are given both, once each.
 pub fn run_trial(heap: Global, seed: u64, tally: &mut Tally) -> Result<Option<u64>, AllocError>
     ensures { IfOk result (λ line. IfSome line (λ at. at ≤ 1500)) }
 {
@@ -147,7 +148,7 @@ impl Receiving {
 }
 
 // A line with more bytes behind it.
-fn lengthened(line: &[u8; 46]) -> [u8; 60]
+fn lengthened(line: &[u8; Line::LENGTH]) -> [u8; LONGEST]
     ensures { (k : ℕ) → k < 46 → slice_index result k ≡ slice_index line.now k }
 {
     let mut bytes = [0; LONGEST];

@@ -1,4 +1,4 @@
-use Rattle.std.proofs.Common.{◌≡◌, ◌≢◌, ◌∙◌, sym, refl, ap, false, true, ◌⊎◌, ◌||◌, [], ◌∷◌, Decides, eqb, length, rules, tests, arith, slice_index}
+use Rattle.std.proofs.Common.{◌≡◌, ◌∙◌, refl, ap, ◌⊎◌, ◌||◌, [], ◌∷◌, eqb, rules, tests, arith, slice_index}
 use Rattle.std.specs.List.{starts_with}
 use Rattle.std.specs.Cmp.Lexicographic.{pointwise}
 use Rattle.std.specs.Iterator.Adapters.{zip_second}

@@ -1,4 +1,4 @@
-use Rattle.std.proofs.Common.{◌≡◌, ◌-◌, ◌∙◌, sym, Decides, length, take, drop, rules, arith, slice_index}
+use Rattle.std.proofs.Common.{◌≡◌, ◌-◌, length, take, drop, rules, arith, slice_index}
 use Rattle.std.proofs.lemmas.Grind.{common_steps}
 use Rattle.trials.proofs.Comparing.{slot_page, letters_behind}
 use Rattle.trials.proofs.compare.same_slot.Goals as goal

@@ -1,4 +1,4 @@
-use Rattle.std.proofs.Common.{◌≡◌, ◌≤◌, ◌∙◌, sym, Decides, length, rules, arith, slice_index}
+use Rattle.std.proofs.Common.{◌≡◌, ◌∙◌, sym, Decides, length, rules, slice_index}
 use Rattle.std.proofs.lemmas.Bool.Decides.{Decides-like}
 use Rattle.trials.specs.Same.{SlotSame}
 use Rattle.trials.proofs.Slots.{slot_places, all_places, slot_mark}
