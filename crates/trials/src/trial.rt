@@ -1,5 +1,6 @@
 // A trial: a random broadcast into a store beside the reference, compared after every line.
 ghost use Rattle.std.specs.Prelude.{◌≡◌, ℕ, ◌<◌, ◌≤◌, true, Decides, IfOk, IfSome, slice_index};
+ghost use Rattle.receiver.specs.Entry.{counted};
 ghost use Rattle.trials.specs.AsTold.{AsTold, Keeps};
 ghost use Rattle.trials.specs.Same.{Kept};
 ghost use Rattle.trials.specs.Told.{TwoTurned};
@@ -116,6 +117,8 @@ impl Receiving {
     ) -> Result<bool, AllocError>
         ensures told { IfOk result (λ fine. fine ≡ true → AsTold self.new) }
         ensures kept { IfOk result (λ fine. fine ≡ true → Kept self.old.store.items self.new.store.items due page) }
+        ensures counted { IfOk result (λ fine. fine ≡ true → self.new.counts ≡ counted self.old.counts due) }
+        ensures reference { self.new.reference ≡ self.old.reference }
     {
         let before = self.store.clone()?;
         let done = receive(bytes, self.store.as_mut_slice(), &mut self.counts);
