@@ -9,9 +9,6 @@ pub const FIRST_LETTER: u8 = 32;
 // How many values seven bits have: the letters end below it.
 pub const SEVEN_BITS: u8 = 128;
 
-// What stands for no known letter.
-pub const NO_LETTER: u8 = 0;
-
 // Whether an odd number of a byte's bits are set.
 #[tactic(auto, using(crate::proofs::Numbers::ones_byte), unfolding(crate::specs::Parity::odd_parity))]
 fn is_odd(byte: u8) -> bool
