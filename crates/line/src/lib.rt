@@ -108,7 +108,7 @@ pub fn within_limits(sent: &[u8], came: &[u8]) -> bool
         && turned_at_most(sent_letters, came_letters, Line::LETTER_LIMIT)
 }
 
-// Whether at most `limit` bits are turned in each byte of one length.
+// Whether at most `limit` bits are turned in each of as many bytes that came as were sent.
 fn turned_at_most(sent: &[u8], came: &[u8], limit: u32) -> bool
     requires { length sent.now ≡ length came.now }
     ensures { Decides result ((k : ℕ) → k < length sent.now → distance (slice_index sent.now k) (slice_index came.now k) ≤ limit) }
