@@ -45,7 +45,8 @@ pub(crate) fn claim_slot<I: SlotIndex>(
     ensures agrees { I.agrees store.new index.new }
 {
     if let Some(slot) = index.find(store, page) {
-        if version_in(store, slot) != version {
+        let stale = version_in(store, slot) != version;
+        if stale {
             begin(store, slot, page, version);
         }
         return Some(slot);

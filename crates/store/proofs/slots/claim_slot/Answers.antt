@@ -5,18 +5,18 @@ use Rattle.store.proofs.Listing.{same_begun}
 use Rattle.store.proofs.Applying.{claimed_kept, claimed_anew, claimed_free}
 use Rattle.store.proofs.slots.claim_slot.Goals as goal
 
-pub returns-then-version_in-version : goal.returns-then-version_in-version
-returns-then-version_in-version g c =
+pub returns-then-stale : goal.returns-then-stale
+returns-then-stale g c =
     let w = c.in-Some.ensures in
     let b = c.begin.ensures in
     record {
-      slot = claimed_anew _ _ _ _ _ c.requires.formed w (λ e. c.if-version_in-version.true (c.version_in.ensures ∙ e)) b;
+      slot = claimed_anew _ _ _ _ _ c.requires.formed w (λ e. c.if-stale.true (c.version_in.ensures ∙ e)) b;
       formed = begun_formed _ _ _ _ _ c.requires.formed w.within c.begin.auto.store (no_other _ _ _ c.requires.formed w.within w.here) b;
       agrees = g.met.I.SlotIndex.kept _ _ _ (same_begun _ _ _ _ _ c.begin.auto.store w.here b) c.requires.agrees;
     }
 
-pub returns-else-version_in-version : goal.returns-else-version_in-version
-returns-else-version_in-version g c = record { slot = claimed_kept _ _ _ _ c.requires.formed c.in-Some.ensures (sym c.version_in.ensures ∙ c.if-version_in-version.false); formed = c.requires.formed; agrees = c.requires.agrees }
+pub returns-else-stale : goal.returns-else-stale
+returns-else-stale g c = record { slot = claimed_kept _ _ _ _ c.requires.formed c.in-Some.ensures (sym c.version_in.ensures ∙ c.if-stale.false); formed = c.requires.formed; agrees = c.requires.agrees }
 
 pub returns : goal.returns
 returns g c =
