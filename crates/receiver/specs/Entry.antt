@@ -14,7 +14,7 @@ abbrev pub number : Refusal → ℕ
 number Line = 1
 number Store = 2
 
--- the number of why lines are turned away that are for store s: of their length, if it isn't as it should be, or of the store; 0 if they are not turned away
+-- why lines that are for store s are turned away, by number: they don't have the length that they should, or the store isn't as it should be; 0 if they are not turned away
 unfoldable pub turned_away : (whole : Bool) (s : List ℕ) → ℕ
 turned_away whole s = cond whole (cond (well_formed s) 0 (number Store)) (number Line)
 

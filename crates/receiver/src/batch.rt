@@ -9,7 +9,6 @@ use crate::refusal::{Refusal, accept, place};
 use line::Line;
 
 // Takes lines that are laid end to end into a lent store, and counts them: as `receive` does, one after the other. Why, if they are turned away.
-#[tactic(auto, using(crate::proofs::Calls::took_lines))]
 pub fn take_lines(lines: &[u8], store: &mut [u8], counts: &mut Counts) -> Result<(), Refusal>
     ensures { MatchResult result (λ _. TookLines lines.now store.old counts.old store.new counts.new) (λ f. RefusedLines (number f) lines.now store.old counts.old store.new counts.new) }
 {
