@@ -12,12 +12,8 @@ pub fn next_line(pages: &[Page], schedule: &mut Schedule) -> Option<[u8; 46]>
     ensures moved { schedule.new ≡ after (length pages.now) schedule.old }
     ensures once { EachLineOnce }
 {
-    let Some(turn) = sender::next(pages.len() as u64, schedule) else {
-        return None;
-    };
+    let turn = sender::next(pages.len() as u64, schedule)?;
     let page = &pages[turn.page as usize];
-    let Some(line) = page.row_line(turn.row as u8) else {
-        return None;
-    };
+    let line = page.row_line(turn.row as u8)?;
     Some(line.encode())
 }

@@ -16,6 +16,7 @@ pub fn show_row(store: &[u8], page: u64, at: u64, out: &mut String) -> Result<()
 }
 
 // The version in which a page is shown; none if it isn't there, or the store isn't as it should be.
+#[tactic(auto, using(crate::proofs::Screens::shown_of_text))]
 pub fn shown_version(store: &[u8], page: u64) -> Option<u8>
     ensures version { MatchOption result ((well_formed store.now && (page_in store.now page).there) ≡ false) (λ v. VersionOf store.now page v) }
     ensures of_text { IfSome result (λ v. VersionOfText store.now page v) }

@@ -1,7 +1,7 @@
 -- Lemmas on the end of a line. Assumes nothing.
-use Rattle.std.proofs.Common.{◌≡◌, ℕ, ◌-◌, ◌≤◌, eqb, List, length, get_or, take, sym, arith, length-take}
+use Rattle.std.proofs.Common.{◌≡◌, ℕ, ◌-◌, ◌≤◌, eqb, List, length, get_or, take, sym, refl, arith, length-take}
 use Rattle.std.proofs.lemmas.Bool.{ne_eqb, cond-false, cond_both}
-use Rattle.text.specs.Lines.{without_return}
+use Rattle.text.specs.Lines.{without_end, without_return, without_newline}
 
 pub return_short : (l : List ℕ) → length (without_return l) ≤ length l
 unfolding without_return
@@ -13,3 +13,12 @@ return_short l =
 pub no_return_stays : (l : List ℕ) → (get_or l (length l - 1) 0 ≡ 13 → ⊥) → l ≡ without_return l
 unfolding without_return
 no_return_stays l ne = sym (cond-false _ _ _ (ne_eqb _ _ ne))
+
+-- the two ends are of one kind
+pub return_end : (l : List ℕ) → without_end 13 l ≡ without_return l
+unfolding without_return
+return_end l = refl
+
+pub newline_end : (l : List ℕ) → without_end 10 l ≡ without_newline l
+unfolding without_newline
+newline_end l = refl
