@@ -1,11 +1,11 @@
 -- Lemmas on what one line says. Assumes nothing.
 use Rattle.std.proofs.Common.{◌≡◌, ℕ, ◌<◌, ◌≤◌, true, false, cond, ◌&&◌, eqb, leb, List, [], ◌∷◌, length, get_or, Some, None, codes, Option, sym, refl, ap, ◌∙◌, ⊎_elim, arith}
 use Rattle.std.specs.List.{list_all}
-use Rattle.std.proofs.lemmas.Bool.{cond-true, cond-false, leb-true, eq-eqb, ne_eqb, and_parts, cases_Bool}
+use Rattle.std.proofs.lemmas.Bool.{cond-true, cond-false, leb-true, ne_eqb, and_parts, cases_Bool}
 use Rattle.coding.specs.Parity.{is_letter}
 use Rattle.page_text.proofs.LineWords.{and_then_some, cond_some, number_bound}
 use Rattle.line.specs.Size.{rows, columns}
-use Rattle.page_text.specs.Reading.{after, read_number, and_then, read_heading, read_row, all_letters, Said, nothing, heading, row, unreadable, heading_or_row, what_says}
+use Rattle.page_text.specs.Reading.{after, read_number, and_then, read_heading, read_row, all_letters, Said, nothing, heading, row, heading_or_row, what_says}
 
 -- a heading, read part by part
 module _ (l : List ℕ) where

@@ -7,7 +7,7 @@ use Rattle.page_text.specs.declared.TextError.{TextError}
 use Rattle.page_text.specs.declared.TextError.TheVariants.{Refused, Memory}
 use Rattle.page_text.specs.Reading.{Said, nothing, heading, row, unreadable, Reading, Outcome, bad_line}
 
--- what a line says, by its item: none is of a line that can't be read
+-- what a line says, by the item that is read of it; of a line that can't be read, there is none
 abbrev pub said : Option Item → Said
 said (Some Pass) = nothing
 said (Some (Heading h)) = heading h.page h.version

@@ -42,6 +42,7 @@ pub struct Page {
 
 impl Page {
     // The letters of each row.
+    #[tactic(auto, using(crate::proofs::ValidLines::chunk_at))]
     fn rows(&self) -> &[[u8; COLUMNS]]
         ensures long { length result.now ≡ rows }
         ensures each { EachIndex result.now (λ r. slice_index_or result.now r [] ≡ take columns (drop (columns * r) self.now.letters)) }

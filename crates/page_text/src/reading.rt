@@ -24,6 +24,8 @@ impl Page {
         }
     }
 
+    // Writes a row's letters in their place.
+    #[tactic(auto, using(crate::proofs::DraftPages::with_row_is))]
     fn set_row(&mut self, row: Row<'_>)
         ensures number { self.new.number ≡ self.old.number }
         ensures version { self.new.version ≡ self.old.version }

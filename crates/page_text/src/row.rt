@@ -24,6 +24,7 @@ pub(super) struct Row<'a> {
 
 impl<'a> Row<'a> {
     // The letters of the whole row: those given, and then blanks.
+    #[tactic(auto, using(crate::proofs::DraftPages::padded_is))]
     pub(super) fn padded(&self) -> [u8; COLUMNS]
         ensures { result ≡ padded self.now.letters.now }
     {
@@ -41,7 +42,7 @@ fn are_letters(bytes: &[u8]) -> bool
 }
 
 // The row that a line gives, if it gives one.
-#[tactic(auto, unfolding(crate::specs::Reading::read_row, crate::specs::Reading::and_then))]
+#[tactic(auto, using(crate::proofs::LineWords::number_bound), unfolding(crate::specs::Reading::read_row, crate::specs::Reading::and_then))]
 pub(super) fn read_row<'a>(line: &'a [u8]) -> Option<Row<'a>>
     ensures { MatchOption result (read_row line.now ≡ None) (λ x. read_row line.now ≡ Some (x.number, x.letters.now)) }
 {

@@ -19,8 +19,8 @@ pub(super) struct Number<'a> {
     pub(super) rest: &'a [u8],
 }
 
-#[tactic(auto, unfolding(crate::specs::Reading::read_number))]
 // The number at the front, of at most `places` digits and at most `greatest`.
+#[tactic(auto, unfolding(crate::specs::Reading::read_number))]
 pub(super) fn read_number<'a>(bytes: &'a [u8], places: usize, greatest: u8) -> Option<Number<'a>>
     ensures { MatchOption result (read_number places greatest bytes.now ≡ None) (λ n. read_number places greatest bytes.now ≡ Some (n.value, n.rest.now)) }
 {

@@ -8,6 +8,7 @@ use super::{NEWLINE, Page};
 use line::COLUMNS;
 use std::alloc::{AllocError, Global};
 
+// Appends a page's heading.
 #[tactic(auto, unfolding(crate::specs::Written::heading_line))]
 fn write_heading(heap: Global, page: &Page, out: &mut Vec<u8>) -> Result<(), AllocError>
     ensures { Appended out.old.items out.new.items (ended (heading_line page.now.number page.now.version)) result }
@@ -16,6 +17,7 @@ fn write_heading(heap: Global, page: &Page, out: &mut Vec<u8>) -> Result<(), All
     out.extend_from_slice(heading.as_bytes())
 }
 
+// Appends a row: its number, and its letters, which may be any bytes.
 fn write_row(
     heap: Global,
     row: usize,

@@ -2,8 +2,7 @@ use Rattle.std.proofs.Common.{◌≡◌, ◌∙◌, ap, take, drop, Some, sym, a
 use Rattle.std.specs.Char.{is_ascii_digit}
 use Rattle.std.specs.List.{prefix_len}
 use Rattle.std.specs.Str.{IsValidUpTo, valid_up_to}
-use Rattle.std.proofs.lemmas.List.Sums.{prefix_len-le-length}
-use Rattle.page_text.proofs.LineWords.{number_long, number_over, number_read, number_unparsed, front_utf8, utf8_is_text, text_is}
+use Rattle.page_text.proofs.LineWords.{number_over, number_read, number_unparsed, front_utf8, utf8_is_text, text_is}
 use Rattle.page_text.proofs.words.read_number.Goals as goal
 
 pub returns-in_err-ok : goal.returns-in_err-ok

@@ -1,4 +1,4 @@
-use Rattle.std.proofs.Common.{◌≡◌, ◌-◌, ◌<◌, length, get_or, refl, inl, inr, subst, arith, rules}
+use Rattle.std.proofs.Common.{◌≡◌, ◌-◌, ◌<◌, get_or, subst, arith, rules}
 use Rattle.std.specs.Prelude.{IfSome, vec_len, vec_items}
 use Rattle.page_text.specs.Code.{reading}
 use Rattle.page_text.proofs.DraftPages.{row_taken}
