@@ -1,133 +1,147 @@
--- That comparing a store slot by slot, and the pages that stand in it, compares every page. Assumes nothing.
-use Rattle.std.proofs.Common.{◌≡◌, ℕ, zero, suc, ◌+◌, ◌*◌, ◌/◌, ◌%◌, ◌<◌, Bool, true, false, ◌&&◌, ◌||◌, eqb, List, length, get_or, set, vec_items, sym, refl, ap, ◌∙◌, subst, ⊎_elim, add-one, arith, get_or-set_other, get_or-set_same}
-use Rattle.std.proofs.lemmas.Bool.{and_right, eq-eqb, ne_eqb, cases_eq, cases_Bool, cases_lt, cond-true, cond-false, or_right}
-use Rattle.store.specs.Page.{Page, no_page}
-use Rattle.store.specs.Layout.{slots, mark_at, number_at, holds, well_formed, page_in}
+-- That comparing a store slot by slot, and looking for each page of the reference in it, compares every page. Assumes nothing.
+use Rattle.std.proofs.Common.{◌≡◌, ℕ, ◌+◌, ◌*◌, ◌/◌, ◌%◌, ◌<◌, Bool, true, false, ◌&&◌, ◌⊎◌, List, length, get_or, take, drop, Option, Some, None, Decides, IsSome, is_some, unwrap_or, MatchOption, vec_items, inl, inr, sym, refl, ap, ◌∙◌, subst, ⊎_elim, arith}
+use Rattle.std.proofs.lemmas.Bool.{both_ways, and_from, lt-ltb}
+use Rattle.std.proofs.lemmas.Bool.Decides.{Decides-like}
+use Rattle.std.proofs.lemmas.List.{get_or-take, get_or-drop}
+use Rattle.store.specs.Page.{ShowsSame, no_page}
+use Rattle.store.specs.Layout.{slots, slot_bytes, mark_at, number_at, holds, well_formed, page_in, FirstFault}
+use Rattle.store.specs.Slots.{has_row, VersionOf}
+use Rattle.store.specs.Writes.{Found}
+use Rattle.store.proofs.Faults.{faulty}
 use Rattle.store.proofs.Formed.{holds_from, holds_parts}
 use Rattle.store.proofs.Pages.{shows_is, page_held, page_absent, page_there, absent_there, slot_cases, slot_version, slot_letter, none_there}
-use Rattle.trials.specs.Told.{letter_told, page_told}
+use Rattle.trials.specs.Told.{told, letter_told, page_of}
 use Rattle.trials.specs.Text.{text_letter}
-use Rattle.store.specs.Writes.{held_below, Seen}
-use Rattle.trials.specs.Same.{Same, TrueLetters, SlotSame, Kept}
-use Rattle.trials.specs.declared.reference.Answer.{Answer}
+use Rattle.trials.specs.Same.{Same, TrueLetters, SlotSame, RowShown, PageShown}
 use Rattle.trials.specs.declared.reference.Reference.{Reference}
+use Rattle.trials.specs.declared.reference.ReferencePage.{ReferencePage}
 use Rattle.trials.proofs.Telling.{sent_there}
+use Rattle.trials.proofs.Slots.{slot_byte}
 
-pub seen_none : (s : List ℕ) (table : List Bool) → ((n : ℕ) → n < 256 → get_or table n false ≡ false) → Seen s table 0
-unfolding held_below
-seen_none s table f = f
+is_there : (o : Option ReferencePage) → (o ≡ None) ⊎ ((p : ReferencePage) × (o ≡ Some p))
+is_there None = inl refl
+is_there (Some p) = inr (p, refl)
 
-and_itself : (m e : Bool) → e ≡ true → m ≡ (m && e)
-and_itself true e h = sym h
-and_itself false e h = refl
-
-pub seen_more : (s : List ℕ) (table : List Bool) (i : ℕ) → Seen s table i → length table ≡ 256 → number_at s i < 256 →
-    Seen s (set table (number_at s i) (eqb (mark_at s i) 1 || get_or table (number_at s i) false)) (i + 1)
-unfolding held_below holds
-seen_more s table i seen long small n lt =
-    let p : ℕ = number_at s i in
-    let m : Bool = eqb (mark_at s i) 1 in
-    ⊎_elim
-    (λ e. rw e (get_or-set_same table p (m || get_or table p false) false (omega arith) ∙ ap (λ x. m || x) (seen p small) ∙ ap (λ x. x || held_below s p i) (and_itself m (eqb p p) (eq-eqb _ _ refl)) ∙ ap (held_below s p) (sym (add-one i))))
-    (λ ne. get_or-set_other table p n (m || get_or table p false) false ne ∙ seen n lt ∙ ap (λ x. x || held_below s n i) (sym (and_right m (eqb p n) (ne_eqb _ _ (λ x. ne (sym x))))) ∙ ap (held_below s n) (sym (add-one i)))
-    (cases_eq n p)
-
-held_none : (s : List ℕ) (n m : ℕ) → ((k : ℕ) → k < m → holds s n k ≡ false) → held_below s n m ≡ false
-unfolding held_below
-held_none s n zero f = refl
-held_none s n (suc m) f = ap (λ x. x || held_below s n m) (f m (omega arith)) ∙ held_none s n m (λ k h. f k (omega arith))
-
-held_some : (s : List ℕ) (n i m : ℕ) → i < m → holds s n i ≡ true → held_below s n m ≡ true
-unfolding held_below
-held_some s n i zero lt e = absurd (omega arith)
-held_some s n i (suc m) lt e =
-    ⊎_elim (λ below. or_right (holds s n m) (held_below s n m) (held_some s n i m below e))
-    (λ ge. let same : i ≡ m = omega arith in ap (λ x. x || held_below s n m) (subst (λ j. holds s n j ≡ true) same e)) (cases_lt i m)
-
--- a page is there in the store if some slot holds it
-held_there : (s : List ℕ) (n : ℕ) → well_formed s ≡ true → held_below s n (slots s) ≡ (page_in s n).there
-held_there s n ok =
-    ⊎_elim (λ w. held_some s n w.0 (slots s) w.1 w.2 ∙ sym (page_there s n w.0 ok w.1 w.2))
-    (λ f. held_none s n (slots s) f ∙ sym (absent_there s n f)) (slot_cases s n)
-
--- a page is there in the reference if its table says so
-told_there : (there : List Bool) (versions letters : List ℕ) (n : ℕ) → (page_told there versions letters n).there ≡ get_or there n false
-told_there there versions letters n =
-    ⊎_elim (λ e. ap (λ (p : Page). p.there) (cond-true (get_or there n false) _ _ e) ∙ sym e)
-    (λ e. ap (λ (p : Page). p.there) (cond-false (get_or there n false) _ _ e) ∙ none_there ∙ sym e) (cases_Bool (get_or there n false))
-
-told_version : (there : List Bool) (versions letters : List ℕ) (n : ℕ) → get_or there n false ≡ true → (page_told there versions letters n).version ≡ get_or versions n 0
-told_version there versions letters n e = ap (λ (p : Page). p.version) (cond-true (get_or there n false) _ _ e)
-
-told_letter : (there : List Bool) (versions letters : List ℕ) (n r c : ℕ) → get_or there n false ≡ true → (page_told there versions letters n).letters r c ≡ letter_told letters n r c
-told_letter there versions letters n r c e = ap (λ (p : Page). p.letters r c) (cond-true (get_or there n false) _ _ e)
-
--- from slots and table to the pages
-pub same_from : (s : List ℕ) (ref : Reference) (table : List Bool) → well_formed s ≡ true → ((i : ℕ) → i < slots s → mark_at s i ≡ 1 → SlotSame s i ref) →
-    Seen s table (slots s) → ((n : ℕ) → n < 256 → get_or table n false ≡ get_or ref.there n false) → Same s ref
-same_from s ref table ok each seen marks = record {
+-- from slots to the pages
+pub same_from : (s : List ℕ) (ref : Reference) → well_formed s ≡ true → ((i : ℕ) → i < slots s → mark_at s i ≡ 1 → SlotSame (slot_bytes s i) ref) →
+    ((n : ℕ) → n < 256 → IsSome (told (vec_items ref.pages) n) → (i : ℕ) × Found s n i) → Same s ref
+same_from s ref ok each found = record {
   formed = ok;
   pages = λ n h.
-      let told = page_told ref.there ref.versions (vec_items ref.letters) n in
       ⊎_elim
       (λ w.
       let i = w.0 in
+      let parts = holds_parts s n i w.2 in
       let held = page_held s n i ok w.1 w.2 in
-      let number = (holds_parts s n i w.2).1 in
-      let here = each i w.1 (holds_parts s n i w.2).0 in
-      let is : get_or ref.there n false ≡ true = subst (λ m. get_or ref.there m false ≡ true) number here.there in
-      record {
-        there = page_there s n i ok w.1 w.2 ∙ sym (told_there ref.there ref.versions (vec_items ref.letters) n ∙ is);
-        version = ap (λ p. p.version) held ∙ slot_version s i ∙ sym here.version ∙ ap (λ m. get_or ref.versions m 0) number ∙ sym (told_version ref.there ref.versions (vec_items ref.letters) n is);
+      let here = each i w.1 parts.0 in
+      let number : get_or (slot_bytes s i) 1 0 ≡ n = slot_byte s i 1 (omega arith) ∙ parts.1 in
+      let is : told (vec_items ref.pages) n ≡ Some here.page = subst (λ m. told (vec_items ref.pages) m ≡ Some here.page) number here.there in
+      subst (λ o. ShowsSame (page_in s n) (page_of o)) (sym is)
+      (record {
+        there = page_there s n i ok w.1 w.2;
+        version = ap (λ p. p.version) held ∙ slot_version s i ∙ sym (slot_byte s i 2 (omega arith)) ∙ sym here.version;
         letters = λ r c hr hc.
-            ap (λ p. p.letters r c) held ∙ slot_letter s i r c hr hc ∙ here.letters (40 * r + c) (omega arith)
-            ∙ ap (λ m. get_or (vec_items ref.letters) (1000 * m + (40 * r + c)) 0) number ∙ sym (told_letter ref.there ref.versions (vec_items ref.letters) n r c is);
-      })
+            let at : 1003 * i + 3 + (40 * r + c) ≡ 1003 * i + (3 + (40 * r + c)) = omega arith in
+            ap (λ p. p.letters r c) held ∙ slot_letter s i r c hr hc ∙ ap (λ k. get_or s k 0) at ∙ sym (slot_byte s i (3 + (40 * r + c)) (omega arith)) ∙ here.letters (40 * r + c) (omega arith);
+      }))
       (λ f.
-      let gone : get_or ref.there n false ≡ false = sym (marks n h) ∙ seen n h ∙ held_none s n (slots s) f in
-      shows_is (page_absent s n f ∙ sym (cond-false (get_or ref.there n false) _ no_page gone))) (slot_cases s n);
+      ⊎_elim (λ none. subst (λ o. ShowsSame (page_in s n) (page_of o)) (sym none) (shows_is (page_absent s n f)))
+      (λ some. let at = found n h (ap (λ (o : Option ReferencePage). is_some o) some.1) in absurd (both_ways (holds s n at.0) (f at.0 at.1.within) at.1.here)) (is_there (told (vec_items ref.pages) n)))
+      (slot_cases s n);
 }
 
 -- and back: each slot
-pub same_slot : (s : List ℕ) (ref : Reference) → Same s ref → (i : ℕ) → i < slots s → number_at s i < 256 → mark_at s i ≡ 1 → SlotSame s i ref
+pub same_slot : (s : List ℕ) (ref : Reference) → Same s ref → (i : ℕ) → i < slots s → number_at s i < 256 → mark_at s i ≡ 1 → SlotSame (slot_bytes s i) ref
 same_slot s ref same i h small mark =
     let n = number_at s i in
     let e = holds_from s n i mark refl in
     let held = page_held s n i same.formed h e in
     let shows = same.pages n small in
-    let is : get_or ref.there n false ≡ true = sym (told_there ref.there ref.versions (vec_items ref.letters) n) ∙ sym shows.there ∙ page_there s n i same.formed h e in
+    let number : get_or (slot_bytes s i) 1 0 ≡ n = slot_byte s i 1 (omega arith) in
+    ⊎_elim
+    (λ none.
+    let gone : (page_in s n).there ≡ false = shows.there ∙ ap (λ o. (page_of o).there) none ∙ none_there in
+    absurd (both_ways (page_in s n).there gone (page_there s n i same.formed h e)))
+    (λ some.
+    let page = some.0 in
+    let shown : ShowsSame (page_in s n) (page_of (Some page)) = subst (λ o. ShowsSame (page_in s n) (page_of o)) some.1 shows in
     record {
-      there = is;
-      version = sym (told_version ref.there ref.versions (vec_items ref.letters) n is) ∙ sym shows.version ∙ ap (λ p. p.version) held ∙ slot_version s i;
+      page = page;
+      there = ap (told (vec_items ref.pages)) number ∙ some.1;
+      version = sym shown.version ∙ ap (λ p. p.version) held ∙ slot_version s i ∙ sym (slot_byte s i 2 (omega arith));
       letters = λ k hk.
           let r = k / 40 in
           let c = k % 40 in
           let hr : r < 25 = omega arith in
           let hc : c < 40 = omega arith in
           let back : 40 * r + c ≡ k = omega arith in
-          subst (λ j. get_or s (1003 * i + 3 + j) 0 ≡ get_or (vec_items ref.letters) (1000 * n + j) 0) back
-          (sym (slot_letter s i r c hr hc) ∙ ap (λ p. p.letters r c) (sym held) ∙ shows.letters r c hr hc ∙ told_letter ref.there ref.versions (vec_items ref.letters) n r c is);
-    }
+          let at : 1003 * i + (3 + k) ≡ 1003 * i + 3 + (40 * r + c) = omega (arith, back) in
+          slot_byte s i (3 + k) (omega arith) ∙ ap (λ j. get_or s j 0) at ∙ sym (slot_letter s i r c hr hc) ∙ ap (λ p. p.letters r c) (sym held) ∙ shown.letters r c hr hc ∙ ap (λ j. get_or page.letters j 0) back;
+    })
+    (is_there (told (vec_items ref.pages) n))
 
--- and the table
-pub same_marks : (s : List ℕ) (ref : Reference) (table : List Bool) → Same s ref → Seen s table (slots s) → (n : ℕ) → n < 256 → get_or table n false ≡ get_or ref.there n false
-same_marks s ref table same seen n h = seen n h ∙ held_there s n same.formed ∙ (same.pages n h).there ∙ told_there ref.there ref.versions (vec_items ref.letters) n
+-- and each page
+pub same_found : (s : List ℕ) (ref : Reference) → Same s ref → (n : ℕ) → n < 256 → IsSome (told (vec_items ref.pages) n) → (i : ℕ) × Found s n i
+same_found s ref same n h some =
+    let shows = same.pages n h in
+    ⊎_elim (λ w. (w.0, record { within = w.1; here = w.2 }))
+    (λ f.
+    ⊎_elim (λ none. absurd (both_ways _ (ap (λ (o : Option ReferencePage). is_some o) none) some))
+    (λ is. let there : (page_in s n).there ≡ true = shows.there ∙ ap (λ o. (page_of o).there) is.1 in absurd (both_ways (page_in s n).there (absent_there s n f) there))
+    (is_there (told (vec_items ref.pages) n))) (slot_cases s n)
 
-none_known : (r c : ℕ) → no_page.letters r c ≡ 0
+no_letter : (r c : ℕ) → no_page.letters r c ≡ 0
 unfolding no_page
-none_known r c = refl
+no_letter r c = refl
 
 -- the reference has no letter that wasn't sent, so neither has a store that is the same
 pub true_letters : (s : List ℕ) (ref : Reference) → Same s ref → TrueLetters s
 true_letters s ref same n r c hn hr hc known =
     let shows = same.pages n hn in
-    ⊎_elim
-    (λ e.
-    let letter : (page_in s n).letters r c ≡ letter_told (vec_items ref.letters) n r c = shows.letters r c hr hc ∙ told_letter ref.there ref.versions (vec_items ref.letters) n r c e in
-    let version : (page_in s n).version ≡ get_or ref.versions n 0 = shows.version ∙ told_version ref.there ref.versions (vec_items ref.letters) n e in
-    letter ∙ ref.sent (1000 * n + (40 * r + c)) (subst (λ x. 0 < x) letter known) ∙ sent_there ref.versions n r c hr hc ∙ ap (λ v. text_letter n v r c) (sym version))
-    (λ e. let none : (page_in s n).letters r c ≡ 0 = shows.letters r c hr hc ∙ ap (λ (p : Page). p.letters r c) (cond-false (get_or ref.there n false) _ no_page e) ∙ none_known r c in absurd (omega (arith, none, known)))
-    (cases_Bool (get_or ref.there n false))
+    ⊎_elim (λ none. let gone : (page_in s n).letters r c ≡ 0 = shows.letters r c hr hc ∙ ap (λ o. (page_of o).letters r c) none ∙ no_letter r c in absurd (omega (arith, gone, known)))
+    (λ is.
+    let shown : ShowsSame (page_in s n) (page_of (Some is.0)) = subst (λ o. ShowsSame (page_in s n) (page_of o)) is.1 shows in
+    let letter : (page_in s n).letters r c ≡ letter_told is.0.letters r c = shown.letters r c hr hc in
+    letter ∙ ref.sent n is.0 is.1 (40 * r + c) (subst (λ x. 0 < x) letter known) ∙ sent_there n is.0.version r c hr hc ∙ ap (λ v. text_letter n v r c) (sym shown.version))
+    (is_there (told (vec_items ref.pages) n))
 
-pub kept_of : (a : Answer) (n : ℕ) {s s₁ t t₁ : List ℕ} → s ≡ t → s₁ ≡ t₁ → Kept s s₁ a n → Kept t t₁ a n
-kept_of a n {s} {s₁} {t} {t₁} e e₁ w = subst (λ x. Kept x t₁ a n) e (subst (λ x. Kept s x a n) e₁ w)
+-- a store with a fault isn't well-formed
+pub fault_found : (s : List ℕ) (o : Option ℕ) → MatchOption o (well_formed s ≡ true) (λ i. FirstFault s i) → is_some o ≡ true → well_formed s ≡ false
+fault_found s None h e = absurd (both_ways false refl e)
+fault_found s (Some i) h e = faulty s i h
+
+-- and one without is
+pub no_fault : (s : List ℕ) (o : Option ℕ) → MatchOption o (well_formed s ≡ true) (λ i. FirstFault s i) → is_some o ≡ false → well_formed s ≡ true
+no_fault s None h e = h
+no_fault s (Some i) h e = absurd (both_ways true e refl)
+
+-- a page of the reference beside a slot, where its version is that of the slot
+pub slot_page : (slot letters : List ℕ) (ref : Reference) (p : ReferencePage) (r : Bool) → ((k : ℕ) → k < 1000 → get_or letters k 0 ≡ get_or slot (3 + k) 0) →
+    Some p ≡ told (vec_items ref.pages) (get_or slot 1 0) → p.version ≡ get_or slot 2 0 → Decides r ((k : ℕ) → k < 1000 → get_or letters k 0 ≡ get_or p.letters k 0) → Decides r (SlotSame slot ref)
+slot_page slot letters ref p r at is version d =
+    Decides-like r (λ f. record { page = p; there = sym is; version = version; letters = λ k h. sym (at k h) ∙ f k h })
+    (λ w k h. at k h ∙ w.letters k h ∙ ap (λ (o : Option ReferencePage). get_or (unwrap_or o p).letters k 0) (sym (is ∙ w.there))) d
+
+-- the bytes of a slot behind its version
+pub letters_behind : (slot : List ℕ) (n k : ℕ) → length slot ≡ 1003 → n ≡ 1000 → k < 1000 → get_or (take n (drop 3 slot)) k 0 ≡ get_or slot (3 + k) 0
+letters_behind slot n k long e h = get_or-take n (drop 3 slot) k 0 (omega (arith, e, h)) ∙ get_or-drop 3 slot k 0
+
+-- a page that is shown, by its version and its rows
+pub page_shown : (s : List ℕ) (ref : Reference) (n : ℕ) (p : ReferencePage) (o : Option ℕ) → well_formed s ≡ true → Some p ≡ told (vec_items ref.pages) n →
+    MatchOption o ((well_formed s && (page_in s n).there) ≡ false) (λ v. VersionOf s n v) → o ≡ Some p.version → ((r : ℕ) → r < 25 → has_row s n r ≡ true → RowShown s n p r) → PageShown s ref n
+page_shown s ref n p o ok is stands at rows =
+    let v : VersionOf s n p.version = subst (λ o. MatchOption o ((well_formed s && (page_in s n).there) ≡ false) (λ v. VersionOf s n v)) at stands in
+    let row = λ (r : ℕ) (low : r < 25). rows r low (and_from _ _ ok (and_from _ _ v.there (lt-ltb _ _ low))) in
+    record {
+      shows = subst (λ o. ShowsSame (page_in s n) (page_of o)) is (record { there = v.there; version = sym v.version; letters = λ r c hr hc. (row r hr).letters c hc });
+      true_letters = λ r c hr hc known. (row r hr).true_letters c hc known ∙ ap (λ v. text_letter n v r c) v.version;
+    }
+
+-- and one that isn't there
+pub none_shown : (s : List ℕ) (ref : Reference) (n : ℕ) → well_formed s ≡ true → None ≡ told (vec_items ref.pages) n → (well_formed s && (page_in s n).there) ≡ false → PageShown s ref n
+none_shown s ref n ok is gone =
+    ⊎_elim (λ w. absurd (both_ways _ gone (and_from _ _ ok (page_there s n w.0 ok w.1 w.2))))
+    (λ f. record {
+      shows = subst (λ o. ShowsSame (page_in s n) (page_of o)) is (shows_is (page_absent s n f));
+      true_letters = λ r c hr hc known. let none : (page_in s n).letters r c ≡ 0 = ap (λ p. p.letters r c) (page_absent s n f) ∙ no_letter r c in absurd (omega (arith, none, known));
+    }) (slot_cases s n)

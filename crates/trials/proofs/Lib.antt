@@ -1,3 +1,3 @@
-pub mod Telling
 pub mod Comparing
-pub mod Rows
+pub mod Slots
+pub mod Telling

@@ -1,27 +1,51 @@
--- The pages as the reference keeps them: a table of those that are there, one of their versions, and the letters of all pages one after the other. Assumes nothing: these are definitions.
-use Rattle.std.specs.Prelude.{◌≡◌, ℕ, ◌+◌, ◌*◌, ◌/◌, ◌%◌, ◌<◌, Bool, true, false, cond, List, Some, None, Option, ◌==◌, ◌≢◌, count_ones, slice_index, slice_index_or}
+-- The pages as the reference keeps them: for each number a page, in a version and with its letters row by row, or none. Assumes nothing: these are definitions.
+use Rattle.std.specs.Prelude.{◌≡◌, ℕ, ◌+◌, ◌*◌, ◌/◌, ◌%◌, ◌<◌, true, cond, List, Some, None, Option, ◌==◌, ◌≢◌, count_ones, option_map, slice_index, slice_index_or}
 use Rattle.store.specs.Page.{Page, no_page}
 use Rattle.trials.specs.Text.{text_letter}
+use Rattle.line.specs.declared.Line.{Line}
+use Rattle.trials.specs.declared.came.Came.{Came}
+use Rattle.trials.specs.declared.reference.ReferencePage.{ReferencePage}
+use Rattle.trials.specs.declared.sent.Sent.{Sent}
+
+-- page n, if it is there
+abbrev pub told : (pages : List (Option ReferencePage)) → ℕ → Option ReferencePage
+told pages n = slice_index_or pages n None
 
 -- the version of page n, if it is there
-abbrev pub version_told : (there : List Bool) (versions : List ℕ) → ℕ → Option ℕ
-version_told there versions n = cond (slice_index_or there n false) (Some (slice_index versions n)) None
+abbrev pub version_told : (pages : List (Option ReferencePage)) → ℕ → Option ℕ
+version_told pages n = option_map (λ p. p.version) (told pages n)
 
--- the letter of page n at row r and column c
-abbrev pub letter_told : (letters : List ℕ) (n r c : ℕ) → ℕ
-letter_told letters n r c = slice_index letters (1000 * n + (40 * r + c))
+-- the letter of a page at row r and column c
+abbrev pub letter_told : (letters : List ℕ) (r c : ℕ) → ℕ
+letter_told letters r c = slice_index letters (40 * r + c)
+
+-- the page that the reference has, or none
+abbrev pub page_of : Option ReferencePage → Page
+page_of None = no_page
+page_of (Some p) = record { there = true; version = p.version; letters = letter_told p.letters }
 
 -- page n
-abbrev pub page_told : (there : List Bool) (versions letters : List ℕ) → ℕ → Page
-page_told there versions letters n = cond (slice_index_or there n false) (record { there = true; version = slice_index versions n; letters = letter_told letters n }) no_page
+abbrev pub page_told : (pages : List (Option ReferencePage)) → ℕ → Page
+page_told pages n = page_of (told pages n)
 
--- the letter that was sent at the k-th place of all pages, in the version that the place's page has
-abbrev pub sent_at : (versions : List ℕ) → ℕ → ℕ
-sent_at versions k = text_letter (k / 1000) (slice_index versions (k / 1000)) (k % 1000 / 40) (k % 40)
+-- the letter that was sent at the k-th place of page n in version v
+abbrev pub sent_at : (n v : ℕ) → ℕ → ℕ
+sent_at n v k = text_letter n v (k / 40) (k % 40)
 
--- each letter that is known is the one that was sent there
-abbrev pub OnlySent : (versions letters : List ℕ) → Type 0
-OnlySent versions letters = (k : ℕ) → 0 < slice_index letters k → slice_index letters k ≡ sent_at versions k
+-- each letter of page n that is known is the one that was sent there in the version that the page has
+abbrev pub OnlySent : ℕ → ReferencePage → Type 0
+OnlySent n p = (k : ℕ) → 0 < slice_index p.letters k → slice_index p.letters k ≡ sent_at n p.version k
+
+-- so it is of every page
+abbrev pub AllSent : (pages : List (Option ReferencePage)) → Type 0
+AllSent pages = (n : ℕ) (p : ReferencePage) → told pages n ≡ Some p → OnlySent n p
+
+-- a line is the one that is sent
+pub record LineOf (sent : Sent) (line : Line) : Type 0 where
+  pub page : line.page ≡ sent.page
+  pub version : line.version ≡ sent.version
+  pub row : line.row ≡ sent.row
+  pub letters : (c : ℕ) → c < 40 → slice_index line.letters c ≡ text_letter sent.page sent.version sent.row c
 
 -- two bits are turned in the byte of a number
 abbrev pub TwoTurned : List ℕ → Type 0
@@ -31,7 +55,8 @@ TwoTurned bits = (i : ℕ) × (i < 6) × (count_ones (slice_index bits i) ≡ 2)
 abbrev pub letter_after : (page version row c bits old : ℕ) → ℕ
 letter_after page version row c bits old = cond (bits == 0) (text_letter page version row c) old
 
--- the first n letters of a line were put over those of its row, and no other letter changed
-pub record RowPut (page version row : ℕ) (bits s t : List ℕ) (n : ℕ) : Type 0 where
-  pub inside : (c : ℕ) → c < n → letter_told t page row c ≡ letter_after page version row c (slice_index bits (6 + c)) (letter_told s page row c)
-  pub outside : (k : ℕ) → ((c : ℕ) → c < n → k ≢ 1000 * page + (40 * row + c)) → slice_index t k ≡ slice_index s k
+-- the first n letters of a line that came were put over those of its row, and no other letter of its page changed
+pub record RowPut (came : Came) (s t : List ℕ) (n : ℕ) : Type 0 where
+  pub inside : (c : ℕ) → c < n →
+      letter_told t came.sent.row c ≡ letter_after came.sent.page came.sent.version came.sent.row c (slice_index came.bits (6 + c)) (letter_told s came.sent.row c)
+  pub outside : (k : ℕ) → ((c : ℕ) → c < n → k ≢ 40 * came.sent.row + c) → slice_index t k ≡ slice_index s k

@@ -1,12 +1,16 @@
 // A random broadcast: lines of a few pages in any order, lost, late and twice, whose versions change from time to time.
-ghost use Rattle.std.specs.Prelude.{◌≡◌, ◌<◌, ◌≤◌};
+ghost use Rattle.std.specs.Prelude.{◌≡◌, ◌<◌, ◌≤◌, [], All, IfOk, IfSome};
+ghost use lib.ListN.{replicate};
+ghost use Rattle.trials.specs.declared.sent.Sent.{Sent};
 ghost use Rattle.line.specs.Damage.{row_line};
 ghost use Rattle.channel.specs.Random.{drawn_below, comes_about};
 ghost use Rattle.channel.specs.Air.{LineBy};
 
+use crate::draw::{draw_byte, draw_index};
+use crate::reference::PAGES;
 use crate::sent::Sent;
 use channel::{Random, Rates, turned_bits};
-use line::ROWS;
+use line::{Line, ROWS};
 use std::alloc::{AllocError, Global};
 use store::MOST_SLOTS;
 
@@ -26,6 +30,9 @@ const MOST_NUMBERS: u64 = 150;
 
 const MOST_LETTERS: u64 = 500;
 
+// By how much a version may go on at most.
+const VERSION_STEPS: u64 = 3;
+
 // How often things happen, in a thousand.
 const NEW_VERSION: u64 = 5;
 
@@ -43,16 +50,22 @@ pub struct Broadcast {
     pages: u8,
     stride: u8,
     lost: u64,
-    versions: [u8; 256],
+    versions: [u8; PAGES],
     late: Vec<Sent>,
+    ghost rows: { All (λ (sent : Sent). sent.row < 25) late.items },
 }
 
 impl Broadcast {
-    // The broadcast of a seed.
-    pub fn new(heap: Global, seed: u64) -> Broadcast {
+    // The broadcast of a seed: at least one page, at most so many, each in its first version, and no line kept for later.
+    pub fn new(heap: Global, seed: u64) -> Broadcast
+        ensures some { 1 ≤ result.pages }
+        ensures few { result.pages ≤ 80 }
+        ensures first { result.versions ≡ replicate 256 0 }
+        ensures late { result.late.items ≡ [] }
+    {
         let mut random = Random::new(seed);
-        let pages = 1 + random.below(MOST_PAGES) as u8;
-        let stride = 1 + 2 * random.below(STRIDES) as u8;
+        let pages = 1 + draw_byte(&mut random, MOST_PAGES);
+        let stride = 1 + 2 * draw_byte(&mut random, STRIDES);
         let lost = random.below(MOST_LOST);
         let numbers = random.below(MOST_NUMBERS);
         let letters = random.below(MOST_LETTERS);
@@ -62,7 +75,7 @@ impl Broadcast {
             pages,
             stride,
             lost,
-            versions: [0; 256],
+            versions: [0; PAGES],
             late: Vec::new(heap),
         }
     }
@@ -72,15 +85,14 @@ impl Broadcast {
         ensures some { 1 ≤ result }
         ensures few { result ≤ 60 }
     {
-        1 + self.random.below(MOST_SLOTS as u64) as usize
+        1 + draw_index(&mut self.random, MOST_SLOTS)
     }
 
     // The bits that are turned in a line.
-    pub fn draw_bits(&mut self) -> [u8; 46]
+    pub fn draw_bits(&mut self) -> [u8; Line::LENGTH]
         ensures { LineBy row_line self.old.rates.numbers self.old.rates.letters result }
     {
-        let rates = self.rates;
-        turned_bits(&rates, &mut self.random)
+        turned_bits(&self.rates, &mut self.random)
     }
 
     pub fn draw_chance(&mut self, per_mille: u64) -> bool
@@ -95,8 +107,10 @@ impl Broadcast {
         self.random.below(limit)
     }
 
-    // The line that comes next; none where one is lost on the way or kept for later.
-    pub fn next_line(&mut self) -> Result<Option<Sent>, AllocError> {
+    // The line that comes next; none where one is lost on the way or comes late. One that comes late or twice is kept for later, if there is room.
+    pub fn next_line(&mut self) -> Result<Option<Sent>, AllocError>
+        ensures { IfOk result (λ line. IfSome line (λ sent. sent.row < 25)) }
+    {
         if self.random.chance(COMES_LATER) {
             return Ok(self.take_late());
         }
@@ -104,45 +118,38 @@ impl Broadcast {
         if self.random.chance(self.lost) {
             return Ok(None);
         }
-        if self.random.chance(IS_LATE) {
-            self.keep(sent)?;
-            return Ok(None);
+        let late = self.random.chance(IS_LATE);
+        if (late || self.random.chance(IS_TWICE)) && self.late.len() < MOST_LATE {
+            self.late.push(sent)?;
         }
-        if self.random.chance(IS_TWICE) {
-            self.keep(sent)?;
-        }
-        Ok(Some(sent))
+        Ok(if late { None } else { Some(sent) })
     }
 
     // A line as it is sent: any row of any of the pages, of which one may have got a new version.
     fn new_line(&mut self) -> Sent
         ensures { result.row < 25 }
     {
-        let page = (self.random.below(self.pages as u64) as u8).wrapping_mul(self.stride);
+        let page = draw_byte(&mut self.random, u64::from(self.pages)).wrapping_mul(self.stride);
+        let at = usize::from(page);
         if self.random.chance(NEW_VERSION) {
-            let version = self.versions[page as usize];
-            self.versions[page as usize] = version.wrapping_add(1 + self.random.below(3) as u8);
+            let steps = 1 + draw_byte(&mut self.random, VERSION_STEPS);
+            self.versions[at] = self.versions[at].wrapping_add(steps);
         }
-        let row = self.random.below(ROWS as u64) as u8;
-        let version = self.versions[page as usize];
-        Sent { page, version, row }
-    }
-
-    // Keeps a line for later, if there is room.
-    fn keep(&mut self, sent: Sent) -> Result<(), AllocError> {
-        if self.late.len() < MOST_LATE {
-            self.late.push(sent)?;
+        Sent {
+            page,
+            version: self.versions[at],
+            row: draw_byte(&mut self.random, ROWS as u64),
         }
-        Ok(())
     }
 
     // One of the lines that were kept, if there is one.
-    fn take_late(&mut self) -> Option<Sent> {
-        let count = self.late.len();
-        if count == 0 {
+    fn take_late(&mut self) -> Option<Sent>
+        ensures { IfSome result (λ sent. sent.row < 25) }
+    {
+        if self.late.is_empty() {
             return None;
         }
-        let at = self.random.below(count as u64) as usize;
+        let at = draw_index(&mut self.random, self.late.len());
         Some(self.late.remove(at))
     }
 }

@@ -1,104 +1,80 @@
 // The store beside the reference, byte by byte: that it is well-formed, that each page in it is as the reference has it, and that none is missing.
-ghost use Rattle.std.specs.Prelude.{◌≡◌, ℕ, ◌+◌, ◌*◌, ◌<◌, ◌≤◌, true, false, length, Decides, slice_index, slice_index_or};
-ghost use Rattle.store.specs.Layout.{slots, mark_at};
-ghost use Rattle.store.specs.Writes.{Seen};
+ghost use Rattle.std.specs.Prelude.{◌≡◌, ℕ, ◌<◌, true, length, IsSome, Decides, slice_index};
+ghost use Rattle.store.specs.Layout.{slots, slot_bytes, mark_at};
+ghost use Rattle.store.specs.Writes.{Found};
+ghost use Rattle.trials.specs.Told.{told};
 ghost use Rattle.trials.specs.Same.{Same, TrueLetters, SlotSame, OthersSame, Kept};
 
-use crate::reference::{Answer, PAGE_LETTERS, PAGES, Reference};
+use crate::reference::Reference;
+use receiver::Done;
 use store::{SLOT_SIZE, find_fault};
 
-// The mark of a slot that holds a page.
+// The mark of a slot that holds a page. It stands here again, for the trials look at the bytes of a store by themselves and don't trust its calls.
 pub(crate) const TAKEN: u8 = 1;
 
-// Where a slot's letters begin.
-pub(crate) const LETTERS_AT: usize = 3;
+// Here and in shown.rt a store and a reference are two arguments: all that holds both is `Receiving`, with the receiver's counts, which no comparison is to see.
 
 // Whether a store is well-formed and shows each page as the reference has it; then no letter in it is false.
 pub fn same_pages(store: &[u8], reference: &Reference) -> bool
     ensures same { Decides result (Same store.now reference.now) }
     ensures letters { result ≡ true → TrueLetters store.now }
 {
-    if let Some(_) = find_fault(store) {
+    if find_fault(store).is_some() {
         return false;
     }
-    same_slots(store, reference) && same_marks(&held_pages(store), &reference.there)
+    same_slots(store, reference) && none_missing(store, reference)
 }
 
 // Whether each page that stands in the store is as the reference has it.
 fn same_slots(store: &[u8], reference: &Reference) -> bool
-    ensures { Decides result ((i : ℕ) → i < slots store.now → mark_at store.now i ≡ 1 → SlotSame store.now i reference.now) }
+    ensures { Decides result ((i : ℕ) → i < slots store.now → mark_at store.now i ≡ 1 → SlotSame (slot_bytes store.now i) reference.now) }
 {
-    for slot in 0..store.len() / SLOT_SIZE {
-        if store[SLOT_SIZE * slot] == TAKEN && !same_slot(store, slot, reference) {
+    store
+        .chunks_exact(SLOT_SIZE)
+        .all(|slot| same_slot(slot, reference))
+}
+
+// Whether the page of a slot, if it holds one, is as the reference has it.
+fn same_slot(slot: &[u8], reference: &Reference) -> bool
+    ensures { length slot.now ≡ 1003 → Decides result (slice_index slot.now 0 ≡ 1 → SlotSame slot.now reference.now) }
+{
+    let [TAKEN, number, version, letters @ ..] = slot else {
+        return true;
+    };
+    match reference.page(*number) {
+        Some(page) => page.version == *version && page.has_letters(letters),
+        None => false,
+    }
+}
+
+// Whether each page of the reference stands in the store.
+fn none_missing(store: &[u8], reference: &Reference) -> bool
+    ensures { Decides result ((n : ℕ) → n < 256 → IsSome (told reference.now.pages.items n) → (i : ℕ) × Found store.now n i) }
+{
+    for number in 0..=255u8 {
+        if reference.page(number).is_some() && !holds_page(store, number) {
             return false;
         }
     }
     true
 }
 
-// Whether the page of a slot is as the reference has it.
-fn same_slot(store: &[u8], slot: usize, reference: &Reference) -> bool
-    requires { slot < slots store.now }
-    ensures { Decides result (SlotSame store.now slot reference.now) }
+// Whether a page stands in the store.
+fn holds_page(store: &[u8], number: u8) -> bool
+    ensures { Decides result ((i : ℕ) × Found store.now number i) }
 {
-    let at = SLOT_SIZE * slot;
-    let page = store[at + 1] as usize;
-    if !reference.there[page] || reference.versions[page] != store[at + 2] {
-        return false;
-    }
-    same_run(
-        store,
-        at + LETTERS_AT,
-        reference.letters.as_slice(),
-        PAGE_LETTERS * page,
-        PAGE_LETTERS,
-    )
-}
-
-// Whether so many bytes from a place on are those from another place on in the other slice.
-fn same_run(left: &[u8], at: usize, right: &[u8], from: usize, count: usize) -> bool
-    requires { (at + count ≤ length left.now) × (from + count ≤ length right.now) }
-    ensures { Decides result ((k : ℕ) → k < count → slice_index left.now (at + k) ≡ slice_index right.now (from + k)) }
-{
-    for k in 0..count {
-        if left[at + k] != right[from + k] {
-            return false;
-        }
-    }
-    true
-}
-
-// Of each page whether it stands in the store.
-fn held_pages(store: &[u8]) -> [bool; 256]
-    ensures { Seen store.now result (slots store.now) }
-{
-    let mut held = [false; PAGES];
-    for slot in 0..store.len() / SLOT_SIZE {
-        let page = store[SLOT_SIZE * slot + 1] as usize;
-        held[page] = (store[SLOT_SIZE * slot] == TAKEN) | held[page];
-    }
-    held
-}
-
-// Whether two tables have the same pages.
-fn same_marks(held: &[bool; 256], there: &[bool; 256]) -> bool
-    ensures { Decides result ((n : ℕ) → n < 256 → slice_index_or held.now n false ≡ slice_index_or there.now n false) }
-{
-    for page in 0..PAGES {
-        if held[page] != there[page] {
-            return false;
-        }
-    }
-    true
+    store
+        .chunks_exact(SLOT_SIZE)
+        .any(|slot| slot.starts_with(&[TAKEN, number]))
 }
 
 // Whether a line left what it may not change: all but the slot of its page if it was taken, and every byte if it wasn't.
-pub(crate) fn keeps_bytes(before: &[u8], after: &[u8], answer: Answer, page: u8) -> bool
+pub(crate) fn keeps_bytes(before: &[u8], after: &[u8], answer: Done, page: u8) -> bool
     ensures { Decides result (Kept before.now after.now answer page) }
 {
     match answer {
-        Answer::Took => same_others(before, after, page),
-        Answer::Lost | Answer::Full => same_bytes(before, after),
+        Done::Took => same_others(before, after, page),
+        Done::Lost | Done::Full | Done::Refused(_) => before == after,
     }
 }
 
@@ -106,22 +82,9 @@ pub(crate) fn keeps_bytes(before: &[u8], after: &[u8], answer: Answer, page: u8)
 fn same_others(before: &[u8], after: &[u8], page: u8) -> bool
     ensures { Decides result (OthersSame before.now after.now page) }
 {
-    if before.len() != after.len() {
-        return false;
-    }
-    for slot in 0..after.len() / SLOT_SIZE {
-        let at = SLOT_SIZE * slot;
-        let own = (after[at] == TAKEN) & (after[at + 1] == page);
-        if !own && !same_run(before, at, after, at, SLOT_SIZE) {
-            return false;
-        }
-    }
-    true
-}
-
-// Whether no byte differs.
-pub(crate) fn same_bytes(before: &[u8], after: &[u8]) -> bool
-    ensures { Decides result (before.now ≡ after.now) }
-{
-    before == after
+    let mut slots = before
+        .chunks_exact(SLOT_SIZE)
+        .zip(after.chunks_exact(SLOT_SIZE));
+    before.len() == after.len()
+        && slots.all(|(old, new)| new.starts_with(&[TAKEN, page]) || old == new)
 }

@@ -2,7 +2,9 @@
 #![tactic(auto)]
 
 mod broadcast;
+mod came;
 mod compare;
+mod draw;
 mod recovery;
 mod reference;
 mod sent;
@@ -39,21 +41,6 @@ fn run(rt: &HostRuntime) -> anyhow::Result<()> {
             return Err(anyhow!("a recovery failed"));
         }
     }
-    print_tally(rt, tally)
-}
-
-fn print_tally(rt: &HostRuntime, tally: Tally) -> anyhow::Result<()> {
-    let Tally {
-        taken,
-        lost,
-        full,
-        refused,
-        letters,
-        recovered,
-        without_room,
-    } = tally;
-    println!(rt; "lines: {taken} taken, {lost} lost, {full} without room, {refused} refused")?;
-    println!(rt; "letters compared: {letters}")?;
-    println!(rt; "pages sent whole: {recovered} recovered, {without_room} without room")?;
+    println!(rt; "{tally}")?;
     Ok(())
 }

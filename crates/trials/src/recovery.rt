@@ -1,20 +1,31 @@
 // Recovery: into any store that isn't turned away, every line of one page comes once, among lines of other pages. Then the page stands whole, or there was no room for it.
-ghost use Rattle.std.specs.Prelude.{◌≡◌, ℕ, ◌*◌, ◌/◌, ◌<◌, true, length, Decides, ◌≢◌, slice_index};
-ghost use Rattle.store.specs.Layout.{letter_fine};
+ghost use Rattle.std.specs.Prelude.{◌≡◌, ℕ, ◌<◌, Bool, true, IfOk, Decides, ◌≢◌, slice_index};
+ghost use Rattle.store.specs.Layout.{letter_fine, slots, mark_at};
+ghost use Rattle.trials.specs.Counts.{with_recovery};
 ghost use Rattle.trials.specs.Same.{StandsWhole};
 
-use crate::compare::{LETTERS_AT, TAKEN};
-use crate::sent::Sent;
+use crate::came::Came;
+use crate::compare::TAKEN;
+use crate::draw::{draw_byte, draw_index};
+use crate::sent::{LETTERS, Sent};
 use crate::shown::whole_row;
 use crate::tally::Tally;
-use channel::{Random, Rates, turn_bits, turned_bits};
-use coding::parity::{FIRST_LETTER, NO_LETTER};
-use line::{Line, ROWS};
+use channel::{Random, Rates, turned_bits};
+use coding::parity::FIRST_LETTER;
+use line::ROWS;
 use receiver::{Done, row, take_line};
 use std::alloc::{AllocError, Global};
-use store::{MOST_SLOTS, SLOT_SIZE, version};
+use std::array;
+use store::{MOST_SLOTS, NO_LETTER, SLOT_SIZE, version};
 
-const LETTERS: u64 = 96;
+// How many pages are drawn from, and how many odd numbers for the distance of their numbers.
+const PAGES: u64 = 100;
+
+// How many versions.
+const VERSIONS: u64 = 4;
+
+// How often a slot is taken at most, in a thousand; above a thousand each slot is.
+const MOST_TAKEN: u64 = 1500;
 
 // How often a letter of the store is unknown, in a thousand.
 const UNKNOWN: u64 = 400;
@@ -31,50 +42,129 @@ const TURNED: Rates = Rates {
 // The mark of a free slot.
 const FREE: u8 = 0;
 
-// Sends one page of a seed whole: whether it stands whole, or there was no room for it.
-pub fn run_recovery(heap: Global, seed: u64, tally: &mut Tally) -> Result<bool, AllocError> {
-    let mut random = Random::new(seed);
-    let slots = 1 + random.below(MOST_SLOTS as u64) as usize;
-    let mut store = vec![in heap; 0u8; SLOT_SIZE * slots]?;
-    let stride = 1 + 2 * random.below(100) as u8;
-    fill_store(store.as_mut_slice(), stride, &mut random);
-    let page = (random.below(100) as u8).wrapping_mul(stride);
-    let was_there = version(store.as_slice(), page as u64).is_some();
-    let sent = Sent {
-        page,
-        version: random.below(4) as u8,
-        row: 0,
-    };
-    if !send_page(sent, store.as_mut_slice(), &mut random) {
-        return Ok(false);
-    }
-    let whole = is_whole(store.as_slice(), sent);
-    tally.count_recovery(whole);
-    let is_there = version(store.as_slice(), page as u64).is_some();
-    Ok(whole || !was_there && !is_there && is_full(store.as_slice()))
+// A store, and the chance by which it is filled and lines come.
+#[derive(Drop)]
+struct Recovery {
+    store: Vec<u8>,
+    random: Random,
 }
 
-// A store as it may be lent: pages `stride` apart, so that none is there twice, in some of the slots, and letters or none everywhere.
-fn fill_store(store: &mut [u8], stride: u8, random: &mut Random) {
-    let marked = random.below(1500);
-    let mut page: u8 = 0;
-    for slot in 0..store.len() / SLOT_SIZE {
-        let at = SLOT_SIZE * slot;
-        store[at] = if random.chance(marked) { TAKEN } else { FREE };
-        store[at + 1] = page;
-        store[at + 2] = random.below(4) as u8;
-        for k in LETTERS_AT..SLOT_SIZE {
-            store[at + k] = any_letter(random);
+// Sends one page of a seed whole: whether it stands whole, or there was no room for it.
+pub fn run_recovery(heap: Global, seed: u64, tally: &mut Tally) -> Result<bool, AllocError>
+    ensures { IfOk result (λ fine. fine ≡ true → (whole : Bool) × (tally.new ≡ with_recovery tally.old whole)) }
+{
+    let mut random = Random::new(seed);
+    let slots = 1 + draw_index(&mut random, MOST_SLOTS);
+    let store = vec![in heap; 0u8; SLOT_SIZE * slots]?;
+    let mut recovery = Recovery { store, random };
+    let stride = 1 + 2 * draw_byte(&mut recovery.random, PAGES);
+    recovery.fill(stride);
+    let page = draw_byte(&mut recovery.random, PAGES).wrapping_mul(stride);
+    let was_there = recovery.has_page(page);
+    let sent = Sent {
+        page,
+        version: draw_byte(&mut recovery.random, VERSIONS),
+        row: 0,
+    };
+    if !recovery.send_page(sent) {
+        return Ok(false);
+    }
+    let whole = recovery.is_whole(sent);
+    tally.count_recovery(whole);
+    Ok(whole || !was_there && !recovery.has_page(page) && recovery.is_full())
+}
+
+impl Recovery {
+    // Fills the store as it may be lent: pages `stride` apart, so that none is there twice, in some of the slots, and letters or none everywhere.
+    fn fill(&mut self, stride: u8) {
+        let marked = self.random.below(MOST_TAKEN);
+        let mut page: u8 = 0;
+        for slot in self.store.as_mut_slice().chunks_exact_mut(SLOT_SIZE) {
+            fill_slot(slot, page, marked, &mut self.random);
+            page = page.wrapping_add(stride);
         }
-        page = page.wrapping_add(stride);
+    }
+
+    // Whether a page stands in the store.
+    fn has_page(&self, page: u8) -> bool {
+        version(self.store.as_slice(), u64::from(page)).is_some()
+    }
+
+    // Sends each row of a page once, in any order, among lines of other pages: whether every line was made out.
+    fn send_page(&mut self, sent: Sent) -> bool {
+        for row in shuffled_rows(&mut self.random) {
+            let other = Sent {
+                page: draw_byte(&mut self.random, 256),
+                version: draw_byte(&mut self.random, VERSIONS),
+                row: draw_byte(&mut self.random, ROWS as u64),
+            };
+            if other.page != sent.page && self.random.chance(OTHER_PAGE) && !self.send(other) {
+                return false;
+            }
+            if !self.send(Sent { row, ..sent }) {
+                return false;
+            }
+        }
+        true
+    }
+
+    // Sends a line with at most one bit of each number turned: whether it was made out.
+    fn send(&mut self, sent: Sent) -> bool {
+        let bits = turned_bits(&TURNED, &mut self.random).map(lowest_bit);
+        let came = Came { sent, bits };
+        matches!(
+            take_line(&came.bytes(), self.store.as_mut_slice()),
+            Done::Took | Done::Full
+        )
+    }
+
+    // Whether a page stands whole in the store, in its version.
+    fn is_whole(&self, sent: Sent) -> bool
+        ensures { Decides result (StandsWhole self.now.store.items sent.page sent.version) }
+    {
+        let store = self.store.as_slice();
+        if version(store, u64::from(sent.page)) != Some(sent.version) {
+            return false;
+        }
+        for at in 0..ROWS as u8 {
+            let shown = row(store, u64::from(sent.page), u64::from(at));
+            if !whole_row(shown, Sent { row: at, ..sent }) {
+                return false;
+            }
+        }
+        true
+    }
+
+    // Whether no slot is free.
+    fn is_full(&self) -> bool
+        ensures { Decides result ((k : ℕ) → k < slots self.now.store.items → mark_at self.now.store.items k ≢ 0) }
+    {
+        self.store
+            .as_slice()
+            .chunks_exact(SLOT_SIZE)
+            .all(|slot| !slot.starts_with(&[FREE]))
+    }
+}
+
+// A slot with a page, taken or not, and letters or none.
+fn fill_slot(slot: &mut [u8], page: u8, marked: u64, random: &mut Random) {
+    let [mark, number, version, letters @ ..] = slot else {
+        return;
+    };
+    *mark = if random.chance(marked) { TAKEN } else { FREE };
+    *number = page;
+    *version = draw_byte(random, VERSIONS);
+    for letter in letters {
+        *letter = any_letter(random);
     }
 }
 
 // A letter, or none.
+#[tactic(auto, using(coding::proofs::Letters::letter_from), unfolding(store::specs::Layout::letter_fine))]
 fn any_letter(random: &mut Random) -> u8
     ensures { letter_fine result ≡ true }
 {
-    let letter = FIRST_LETTER + random.below(LETTERS) as u8;
+    let letter = FIRST_LETTER + draw_byte(random, LETTERS);
     if random.chance(UNKNOWN) {
         NO_LETTER
     } else {
@@ -82,94 +172,18 @@ fn any_letter(random: &mut Random) -> u8
     }
 }
 
-// Sends each row of a page once, in any order, among lines of other pages: whether every line was made out.
-fn send_page(sent: Sent, store: &mut [u8], random: &mut Random) -> bool {
-    let rows = shuffled_rows(random);
-    for k in 0..ROWS {
-        let other = Sent {
-            page: random.below(256) as u8,
-            version: random.below(4) as u8,
-            row: random.below(ROWS as u64) as u8,
-        };
-        if other.page != sent.page && random.chance(OTHER_PAGE) && !send(other, store, random) {
-            return false;
-        }
-        let line = Sent {
-            page: sent.page,
-            version: sent.version,
-            row: rows[k],
-        };
-        if !send(line, store, random) {
-            return false;
-        }
-    }
-    true
-}
-
-// Sends a line with at most one bit of each number turned: whether it was made out.
-fn send(sent: Sent, store: &mut [u8], random: &mut Random) -> bool {
-    let bits = lowest_bits(&turned_bits(&TURNED, random));
-    let came = turn_bits(&sent.line().encode(), &bits);
-    matches!(take_line(&came, store), Done::Took | Done::Full)
-}
-
-// Of each byte the lowest bit that is set.
-fn lowest_bits(bits: &[u8; 46]) -> [u8; 46] {
-    let mut lowest = *bits;
-    for k in 0..Line::LENGTH {
-        lowest[k] = bits[k] & (!bits[k]).wrapping_add(1);
-    }
-    lowest
+// The lowest bit of a byte that is set.
+fn lowest_bit(byte: u8) -> u8 {
+    byte & byte.wrapping_neg()
 }
 
 // The rows of a page in any order.
-fn shuffled_rows(random: &mut Random) -> [u8; 25]
+fn shuffled_rows(random: &mut Random) -> [u8; ROWS]
     ensures { (k : ℕ) → k < 25 → slice_index result k < 25 }
 {
-    let mut rows = [0; 25];
-    for k in 0..ROWS {
-        rows[k] = k as u8;
-    }
+    let mut rows = array::from_fn(|k| k as u8);
     for k in 1..ROWS {
-        let other = random.below(k as u64 + 1) as usize;
-        let row = rows[k];
-        rows[k] = rows[other];
-        rows[other] = row;
+        rows.swap(k, draw_index(random, k + 1));
     }
     rows
-}
-
-// Whether a page stands whole in the store, in its version.
-fn is_whole(store: &[u8], sent: Sent) -> bool
-    ensures { Decides result (StandsWhole store.now sent.page sent.version) }
-{
-    let Some(stands) = version(store, sent.page as u64) else {
-        return false;
-    };
-    if stands != sent.version {
-        return false;
-    }
-    for at in 0..ROWS as u8 {
-        let line = Sent {
-            page: sent.page,
-            version: sent.version,
-            row: at,
-        };
-        if !whole_row(row(store, sent.page as u64, at as u64), line) {
-            return false;
-        }
-    }
-    true
-}
-
-// Whether no slot is free.
-fn is_full(store: &[u8]) -> bool
-    ensures { Decides result ((k : ℕ) → k < length store.now / 1003 → slice_index store.now (1003 * k) ≢ 0) }
-{
-    for slot in 0..store.len() / SLOT_SIZE {
-        if store[SLOT_SIZE * slot] == FREE {
-            return false;
-        }
-    }
-    true
 }

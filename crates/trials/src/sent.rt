@@ -3,12 +3,14 @@ ghost use Rattle.std.specs.Prelude.{◌≡◌, ℕ, ◌<◌, true, slice_index};
 ghost use Rattle.coding.specs.Parity.{is_letter};
 ghost use Rattle.trials.specs.Text.{text_letter};
 
+use crate::draw::draw_byte;
 use channel::Random;
 use coding::parity::FIRST_LETTER;
-use line::{COLUMNS, Line};
+use line::Line;
+use std::array;
 
 // How many letters there are, from the first on.
-const LETTERS: u64 = 96;
+pub(crate) const LETTERS: u64 = 96;
 
 // An odd number that spreads seeds which lie close together.
 const SPREAD: u64 = 0x9E37_79B9_7F4A_7C15;
@@ -23,17 +25,18 @@ pub struct Sent {
 
 impl Sent {
     // The letter at a column.
+    #[tactic(auto, using(coding::proofs::Letters::letter_from), unfolding(crate::specs::Text::text_letter))]
     pub fn letter(&self, column: usize) -> u8
         ensures value { result ≡ text_letter self.now.page self.now.version self.now.row column }
         ensures letter { is_letter result ≡ true }
     {
-        let page = self.page as u64 * 0x1_0000_0000;
-        let version = self.version as u64 * 0x100_0000;
-        let row = self.row as u64 * 0x1_0000;
+        let page = u64::from(self.page) * 0x1_0000_0000;
+        let version = u64::from(self.version) * 0x100_0000;
+        let row = u64::from(self.row) * 0x1_0000;
         let place = (page + version + row).wrapping_add(column as u64);
         let mut random = Random::new(place.wrapping_mul(SPREAD));
         let _ = random.next();
-        FIRST_LETTER + random.below(LETTERS) as u8
+        FIRST_LETTER + draw_byte(&mut random, LETTERS)
     }
 
     // The line with its letters.
@@ -43,15 +46,11 @@ impl Sent {
         ensures row { result.row ≡ self.now.row }
         ensures letters { (c : ℕ) → c < 40 → slice_index result.letters c ≡ text_letter self.now.page self.now.version self.now.row c }
     {
-        let mut letters = [FIRST_LETTER; COLUMNS];
-        for column in 0..COLUMNS {
-            letters[column] = self.letter(column);
-        }
         Line {
             page: self.page,
             version: self.version,
             row: self.row,
-            letters,
+            letters: array::from_fn(|column| self.letter(column)),
         }
     }
 }

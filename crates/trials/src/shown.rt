@@ -1,49 +1,63 @@
 // What the receiver's calls show of a page, beside the reference and beside what was sent: versions, letters and gaps, and that no letter is false.
-ghost use Rattle.std.specs.Prelude.{Decides};
-ghost use Rattle.trials.specs.Same.{RowSame, WholeRow};
+ghost use Rattle.std.specs.Prelude.{◌≡◌, ℕ, ◌<◌, true, false, Decides};
+ghost use Rattle.store.specs.Layout.{well_formed};
+ghost use Rattle.store.specs.Slots.{has_row};
+ghost use Rattle.trials.specs.Same.{RowSame, RowShown, PageShown, WholeRow};
 
-use crate::reference::Reference;
+use crate::reference::{Reference, ReferencePage};
 use crate::sent::Sent;
 use crate::tally::Tally;
-use coding::parity::NO_LETTER;
 use line::{COLUMNS, ROWS};
 use receiver::row;
-use store::version;
+use store::{NO_LETTER, version};
 
 // Whether a page is shown as the reference has it, and each letter as it was sent.
-pub fn shows_page(store: &[u8], reference: &Reference, page: u8, tally: &mut Tally) -> bool {
-    let stands = version(store, page as u64);
-    if stands != reference.version(page) {
-        return false;
+pub fn shows_page(store: &[u8], reference: &Reference, number: u8, tally: &mut Tally) -> bool
+    ensures { result ≡ true → well_formed store.now ≡ true → PageShown store.now reference.now number }
+{
+    let stands = version(store, u64::from(number));
+    match reference.page(number) {
+        Some(page) => stands == Some(page.version) && shows_rows(store, number, page, tally),
+        None => stands.is_none() && shows_nothing(store, number),
     }
-    for at in 0..ROWS as u8 {
-        let shown = row(store, page as u64, at as u64);
-        let same = match stands {
-            Some(version) => {
-                tally.count_row();
-                shows_row(
-                    shown,
-                    reference,
-                    Sent {
-                        page,
-                        version,
-                        row: at,
-                    },
-                )
-            }
-            None => shown.is_empty(),
-        };
-        if !same {
+}
+
+// Whether all pages are.
+pub fn shows_pages(store: &[u8], reference: &Reference, tally: &mut Tally) -> bool
+    ensures { result ≡ true → well_formed store.now ≡ true → (n : ℕ) → n < 256 → PageShown store.now reference.now n }
+{
+    for number in 0..=255u8 {
+        if !shows_page(store, reference, number, tally) {
             return false;
         }
     }
     true
 }
 
-// Whether all pages are.
-pub fn shows_pages(store: &[u8], reference: &Reference, tally: &mut Tally) -> bool {
-    for page in 0..=255u8 {
-        if !shows_page(store, reference, page, tally) {
+// Whether each row of a page is shown so.
+fn shows_rows(store: &[u8], number: u8, page: &ReferencePage, tally: &mut Tally) -> bool
+    ensures { result ≡ true → (r : ℕ) → r < 25 → has_row store.now number r ≡ true → RowShown store.now number page.now r }
+{
+    for at in 0..ROWS as u8 {
+        let sent = Sent {
+            page: number,
+            version: page.version,
+            row: at,
+        };
+        tally.count_row();
+        if !shows_row(row(store, u64::from(number), u64::from(at)), page, sent) {
+            return false;
+        }
+    }
+    true
+}
+
+// Whether no row of a page is shown.
+fn shows_nothing(store: &[u8], number: u8) -> bool
+    ensures { result ≡ true → (r : ℕ) → r < 25 → has_row store.now number r ≡ false }
+{
+    for at in 0..ROWS as u8 {
+        if !row(store, u64::from(number), u64::from(at)).is_empty() {
             return false;
         }
     }
@@ -51,34 +65,23 @@ pub fn shows_pages(store: &[u8], reference: &Reference, tally: &mut Tally) -> bo
 }
 
 // Whether a row that is shown is the reference's, and each of its letters as it was sent.
-fn shows_row(shown: &[u8], reference: &Reference, sent: Sent) -> bool
-    ensures { Decides result (RowSame reference.now sent shown.now) }
+fn shows_row(shown: &[u8], page: &ReferencePage, sent: Sent) -> bool
+    ensures { Decides result (RowSame page.now sent shown.now) }
 {
-    if shown.len() != COLUMNS {
-        return false;
-    }
-    for (column, letter) in shown.iter().enumerate() {
-        if *letter != reference.letter(sent, column) {
-            return false;
-        }
-        if *letter != NO_LETTER && *letter != sent.letter(column) {
-            return false;
-        }
-    }
-    true
+    shown.len() == COLUMNS
+        && shown.iter().enumerate().all(|(column, letter)| {
+            *letter == page.letter(sent.row, column)
+                && (*letter == NO_LETTER || *letter == sent.letter(column))
+        })
 }
 
 // Whether a row that is shown has each letter as it was sent.
 pub fn whole_row(shown: &[u8], sent: Sent) -> bool
     ensures { Decides result (WholeRow sent shown.now) }
 {
-    if shown.len() != COLUMNS {
-        return false;
-    }
-    for (column, letter) in shown.iter().enumerate() {
-        if *letter != sent.letter(column) {
-            return false;
-        }
-    }
-    true
+    shown.len() == COLUMNS
+        && shown
+            .iter()
+            .enumerate()
+            .all(|(column, letter)| *letter == sent.letter(column))
 }

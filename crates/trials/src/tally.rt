@@ -1,11 +1,12 @@
 // What the trials count; a count stops at its largest.
 ghost use Rattle.std.specs.Prelude.{◌≡◌};
-ghost use Rattle.trials.specs.Counts.{nothing, with_answer, with_refused, with_row, with_recovery};
+ghost use Rattle.trials.specs.Counts.{nothing, with_answer, with_row, with_recovery};
 
-use crate::reference::Answer;
 use line::COLUMNS;
+use receiver::Done;
+use std::fmt;
 
-#[derive(Clone, Copy)]
+#[derive(Clone, Copy, Default)]
 pub struct Tally {
     pub taken: u64,
     pub lost: u64,
@@ -21,33 +22,19 @@ impl Tally {
     pub fn new() -> Tally
         ensures { result ≡ nothing }
     {
-        Tally {
-            taken: 0,
-            lost: 0,
-            full: 0,
-            refused: 0,
-            letters: 0,
-            recovered: 0,
-            without_room: 0,
-        }
+        Tally::default()
     }
 
     // A line, by its answer.
-    pub fn count_answer(&mut self, answer: Answer)
+    pub fn count_answer(&mut self, answer: Done)
         ensures { self.new ≡ with_answer self.old answer }
     {
         match answer {
-            Answer::Took => self.taken = self.taken.saturating_add(1),
-            Answer::Lost => self.lost = self.lost.saturating_add(1),
-            Answer::Full => self.full = self.full.saturating_add(1),
+            Done::Took => self.taken = self.taken.saturating_add(1),
+            Done::Lost => self.lost = self.lost.saturating_add(1),
+            Done::Full => self.full = self.full.saturating_add(1),
+            Done::Refused(_) => self.refused = self.refused.saturating_add(1),
         }
-    }
-
-    // A line that was turned away.
-    pub fn count_refused(&mut self)
-        ensures { self.new ≡ with_refused self.old }
-    {
-        self.refused = self.refused.saturating_add(1);
     }
 
     // A row whose letters were compared.
@@ -66,5 +53,29 @@ impl Tally {
         } else {
             self.without_room = self.without_room.saturating_add(1);
         }
+    }
+}
+
+// As it is printed, in three lines.
+impl fmt::Display for Tally {
+    fn fmt<W: fmt::Write>(&self, f: &mut fmt::Formatter<W>) -> fmt::Result {
+        let Tally {
+            taken,
+            lost,
+            full,
+            refused,
+            letters,
+            recovered,
+            without_room,
+        } = self;
+        writeln!(
+            f,
+            "lines: {taken} taken, {lost} lost, {full} without room, {refused} refused"
+        )?;
+        writeln!(f, "letters compared: {letters}")?;
+        write!(
+            f,
+            "pages sent whole: {recovered} recovered, {without_room} without room"
+        )
     }
 }

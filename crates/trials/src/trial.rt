@@ -1,19 +1,19 @@
 // A trial: a random broadcast into a store beside the reference, compared after every line.
-ghost use Rattle.std.specs.Prelude.{◌≡◌, ℕ, ◌<◌, true, IfOk, slice_index};
-ghost use Rattle.trials.specs.Answers.{agrees};
-ghost use Rattle.trials.specs.AsTold.{AsTold, Keeps};
-ghost use Rattle.trials.specs.Told.{TwoTurned};
+ghost use Rattle.std.specs.Prelude.{◌≡◌, ℕ, ◌<◌, ◌≤◌, true, Decides, IfOk, IfSome, slice_index};
 ghost use Rattle.receiver.specs.Entry.{counted};
+ghost use Rattle.trials.specs.AsTold.{AsTold, Keeps};
+ghost use Rattle.trials.specs.Same.{Kept};
+ghost use Rattle.trials.specs.Told.{TwoTurned};
 
 use crate::broadcast::Broadcast;
-use crate::compare::{keeps_bytes, same_bytes, same_pages};
-use crate::reference::{Answer, Reference};
+use crate::came::Came;
+use crate::compare::{keeps_bytes, same_pages};
+use crate::reference::Reference;
 use crate::sent::Sent;
 use crate::shown::{shows_page, shows_pages};
 use crate::tally::Tally;
-use channel::turn_bits;
 use line::Line;
-use receiver::{Counts, Done, receive};
+use receiver::{Counts, Done, Refusal, receive};
 use std::alloc::{AllocError, Global};
 use store::{MOST_SLOTS, SLOT_SIZE};
 
@@ -29,9 +29,6 @@ const OTHER_LENGTH: u64 = 20;
 // Lines of another length are shorter than this.
 const LONGEST: usize = 60;
 
-// The reason that a line of another length is turned away for.
-const REFUSED_LINE: u64 = 1;
-
 // The store and the reference beside it.
 #[derive(Drop)]
 struct Receiving {
@@ -41,7 +38,10 @@ struct Receiving {
 }
 
 // Sends the broadcast of a seed. The line after which the store isn't as the reference has it, if there is one.
-pub fn run_trial(heap: Global, seed: u64, tally: &mut Tally) -> Result<Option<u64>, AllocError> {
+// The heap and the tally are two arguments: only this and `run_recovery` are given both, once each.
+pub fn run_trial(heap: Global, seed: u64, tally: &mut Tally) -> Result<Option<u64>, AllocError>
+    ensures { IfOk result (λ line. IfSome line (λ at. at ≤ 1500)) }
+{
     let mut broadcast = Broadcast::new(heap, seed);
     let slots = broadcast.draw_slots();
     let mut receiving = Receiving::new(heap, slots)?;
@@ -55,9 +55,9 @@ pub fn run_trial(heap: Global, seed: u64, tally: &mut Tally) -> Result<Option<u6
         let bits = broadcast.draw_bits();
         let fine = if broadcast.draw_chance(OTHER_LENGTH) {
             let length = broadcast.draw_below(LONGEST as u64) as usize;
-            receiving.refuses(heap, sent, length, tally)?
+            receiving.refuses(sent, length, tally)?
         } else {
-            receiving.takes(heap, sent, &bits, tally)?
+            receiving.takes(&Came { sent, bits }, tally)?
         };
         if !fine {
             return Ok(Some(at));
@@ -76,44 +76,22 @@ impl Receiving {
         let slots = slots.min(MOST_SLOTS);
         Ok(Receiving {
             store: vec![in heap; 0u8; SLOT_SIZE * slots]?,
-            counts: Counts { lost: 0, full: 0 },
+            counts: Counts::default(),
             reference: Reference::new(heap, slots)?,
         })
     }
 
-    // Takes a line that came with bits turned: whether the answer is that of the reference, and all is as the reference has it.
-    fn takes(
-        &mut self,
-        heap: Global,
-        sent: Sent,
-        bits: &[u8; 46],
-        tally: &mut Tally,
-    ) -> Result<bool, AllocError>
+    // Takes a line that comes with bits turned: whether the answer is that of the reference, and all is as the reference has it.
+    fn takes(&mut self, came: &Came, tally: &mut Tally) -> Result<bool, AllocError>
         ensures told { IfOk result (λ fine. fine ≡ true → AsTold self.new) }
-        ensures kept { IfOk result (λ fine. fine ≡ true → Keeps self.old self.new (TwoTurned bits.now) sent.page) }
+        ensures kept { IfOk result (λ fine. fine ≡ true → Keeps self.old self.new (TwoTurned came.now.bits) came.now.sent.page) }
     {
-        let came = turn_bits(&sent.line().encode(), bits);
-        let before = Vec::from_slice(heap, self.store.as_slice())?;
-        let done = self.receive(&came);
-        let answer = self.reference.take(sent, bits);
-        tally.count_answer(answer);
-        if !keeps_bytes(before.as_slice(), self.store.as_slice(), answer, sent.page) {
-            return Ok(false);
-        }
-        if !is_answer(done, answer) {
-            return Ok(false);
-        }
-        Ok(self.is_same_at(sent.page, tally))
+        let due = self.reference.take(came);
+        self.receives(&came.bytes(), due, came.sent.page, tally)
     }
 
-    // Takes a line that came with another length, if it is another: whether it is turned away and changes nothing.
-    fn refuses(
-        &mut self,
-        heap: Global,
-        sent: Sent,
-        length: usize,
-        tally: &mut Tally,
-    ) -> Result<bool, AllocError>
+    // Takes a line that comes with another length, if it is another: whether it is turned away and changes nothing.
+    fn refuses(&mut self, sent: Sent, length: usize, tally: &mut Tally) -> Result<bool, AllocError>
         ensures told { IfOk result (λ fine. fine ≡ true → AsTold self.new) }
         ensures kept { IfOk result (λ fine. fine ≡ true → self.old.store.items ≡ self.new.store.items) }
     {
@@ -121,36 +99,42 @@ impl Receiving {
             return Ok(self.is_as_told());
         }
         let bytes = lengthened(&sent.line().encode());
-        let before = Vec::from_slice(heap, self.store.as_slice())?;
-        let done = self.receive(&bytes[..length]);
-        tally.count_refused();
-        if !same_bytes(before.as_slice(), self.store.as_slice()) {
-            return Ok(false);
-        }
-        if !matches!(done, Done::Refused(REFUSED_LINE)) {
-            return Ok(false);
-        }
-        Ok(self.is_same_at(sent.page, tally))
+        self.receives(
+            &bytes[..length],
+            Done::Refused(Refusal::Line),
+            sent.page,
+            tally,
+        )
     }
 
-    // Takes a line into the store.
-    fn receive(&mut self, line: &[u8]) -> Done
+    // Takes bytes that come for a page and that an answer is due for: whether they are answered so, leave what that leaves, and all is as the reference has it.
+    fn receives(
+        &mut self,
+        bytes: &[u8],
+        due: Done,
+        page: u8,
+        tally: &mut Tally,
+    ) -> Result<bool, AllocError>
+        ensures told { IfOk result (λ fine. fine ≡ true → AsTold self.new) }
+        ensures kept { IfOk result (λ fine. fine ≡ true → Kept self.old.store.items self.new.store.items due page) }
+        ensures counted { IfOk result (λ fine. fine ≡ true → self.new.counts ≡ counted self.old.counts due) }
         ensures reference { self.new.reference ≡ self.old.reference }
-        ensures counted { self.new.counts ≡ counted self.old.counts result }
     {
-        let mut counts = self.counts;
-        let done = receive(line, self.store.as_mut_slice(), &mut counts);
-        self.counts = counts;
-        done
+        let before = self.store.clone()?;
+        let done = receive(bytes, self.store.as_mut_slice(), &mut self.counts);
+        tally.count_answer(due);
+        Ok(
+            is_answer(done, due)
+                && keeps_bytes(before.as_slice(), self.store.as_slice(), due, page)
+                && self.is_same_at(page, tally),
+        )
     }
 
     // Whether the counts and all pages are as the reference has them.
     fn is_as_told(&self) -> bool
         ensures { result ≡ true → AsTold self.now }
     {
-        self.counts.lost == self.reference.lost
-            && self.counts.full == self.reference.full
-            && same_pages(self.store.as_slice(), &self.reference)
+        self.counts == self.reference.counts && same_pages(self.store.as_slice(), &self.reference)
     }
 
     // Whether they are, and the calls show a page so.
@@ -167,24 +151,17 @@ impl Receiving {
 }
 
 // A line with more bytes behind it.
-fn lengthened(line: &[u8; 46]) -> [u8; 60]
+fn lengthened(line: &[u8; Line::LENGTH]) -> [u8; LONGEST]
     ensures { (k : ℕ) → k < 46 → slice_index result k ≡ slice_index line.now k }
 {
-    let mut bytes = [0; 60];
-    for k in 0..Line::LENGTH {
-        bytes[k] = line[k];
-    }
+    let mut bytes = [0; LONGEST];
+    bytes[..Line::LENGTH].copy_from_slice(line.as_slice());
     bytes
 }
 
-// Whether a line was answered as the reference says.
-fn is_answer(done: Done, answer: Answer) -> bool
-    ensures { result ≡ agrees done answer }
+// Whether a line was answered as it was to be.
+fn is_answer(done: Done, due: Done) -> bool
+    ensures { Decides result (done ≡ due) }
 {
-    match (done, answer) {
-        (Done::Took, Answer::Took) => true,
-        (Done::Lost, Answer::Lost) => true,
-        (Done::Full, Answer::Full) => true,
-        _ => false,
-    }
+    done == due
 }

@@ -1,23 +1,24 @@
-use Rattle.std.proofs.Common.{◌≡◌, ◌<◌, true, false, refl, rules}
+use Rattle.std.proofs.Common.{◌≡◌, ◌<◌, true, false, is_some, refl, rules}
 use Rattle.std.proofs.lemmas.Bool.{both_ways}
 use Rattle.store.specs.Layout.{number_at}
-use Rattle.store.proofs.Faults.{faulty}
-use Rattle.trials.proofs.Comparing.{same_from, same_slot, same_marks, true_letters}
+use Rattle.trials.proofs.Comparing.{fault_found, no_fault, same_from, same_slot, same_found, true_letters}
 use Rattle.trials.proofs.compare.same_pages.Goals as goal
 
-pub returns-in-Some : goal.returns-in-Some
-returns-in-Some c = record {
-  same = (λ e. absurd (both_ways false refl e), λ w. absurd (both_ways _ (faulty _ _ c.in-Some.ensures) w.formed));
-  letters = λ e. absurd (both_ways false refl e);
-}
+pub returns-then-is_some : goal.returns-then-is_some
+returns-then-is_some c =
+    let fault : is_some c.find_fault.result ≡ true = search rules in
+    record {
+      same = (λ e. absurd (both_ways false refl e), λ w. absurd (both_ways _ (fault_found _ _ c.find_fault.ensures fault) w.formed));
+      letters = λ e. absurd (both_ways false refl e);
+    }
 
 pub returns-then-same_slots : goal.returns-then-same_slots
 returns-then-same_slots c =
     let s = c.args.store.now in
     let ref = c.args.reference.now in
-    let held = c.held_pages.result in
-    let same = λ (e : c.same_marks.result ≡ true). same_from s ref held c.in_default.ensures (c.same_slots.ensures.0 c.if-same_slots.true) c.held_pages.ensures (c.same_marks.ensures.0 e) in
-    record { same = (same, λ w. c.same_marks.ensures.1 (same_marks s ref held w c.held_pages.ensures)); letters = λ e. true_letters s ref (same e) }
+    let none : is_some c.find_fault.result ≡ false = search rules in
+    let same = λ (e : c.none_missing.result ≡ true). same_from s ref (no_fault s _ c.find_fault.ensures none) (c.same_slots.ensures.0 c.if-same_slots.true) (c.none_missing.ensures.0 e) in
+    record { same = (same, λ w. c.none_missing.ensures.1 (same_found s ref w)); letters = λ e. true_letters s ref (same e) }
 
 pub returns-else-same_slots : goal.returns-else-same_slots
 returns-else-same_slots c =
