@@ -95,7 +95,7 @@ fn store_error(e: io::Error) -> anyhow::Error {
 fn print_report(rt: &HostRuntime, intake: &Intake, pages: &[u8]) -> anyhow::Result<()> {
     let mut text = String::new(rt.alloc());
     let store = intake.store.as_slice();
-    write_report(rt.alloc(), store, pages, intake.counts, &mut text)?;
+    write_report(store, pages, intake.counts, &mut text)?;
     rt.print(text.as_str())?;
     Ok(())
 }
