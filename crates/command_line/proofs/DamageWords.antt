@@ -1,19 +1,11 @@
--- Lemmas on the words of a command line: how they are compared, and what each adds to what was asked for. Assumes nothing.
-use Rattle.std.proofs.Common.{◌≡◌, ℕ, Bool, true, false, List, [], ◌∷◌, Some, None, codes, Option, refl, ap, ◌∙◌}
+-- Lemmas on the words of a command line: what each adds to what was asked for. Assumes nothing.
+use Rattle.std.proofs.Common.{◌≡◌, ℕ, true, false, List, [], ◌∷◌, Some, None, codes, Option, refl, ap, ◌∙◌}
 use Rattle.std.specs.Str.{bytes_eq}
 use Rattle.std.proofs.lemmas.Bool.{cond-true, cond-false}
-use Rattle.text.proofs.Words.{is_word, not_word, same_word as equal_word, other_word as unequal-word}
 use Rattle.command_line.specs.Damage.{number_of, with_setting, set_by, with_settings, asked}
 use Rattle.command_line.specs.declared.damage.Settings.{Settings}
 use Rattle.command_line.specs.declared.damage.Command.{Command}
 use Rattle.command_line.specs.declared.damage.Command.TheVariants.{Help, Damage}
-
--- the test of two words is the one that was made on their texts
-pub same_word : (b : Bool) (text word other : List ℕ) → text ≡ word → b ≡ bytes_eq text other → b ≡ true → bytes_eq word other ≡ true
-same_word b text word other same h is = equal_word word other (is_word b text word other same h is)
-
-pub other_word : (b : Bool) (text word other : List ℕ) → text ≡ word → b ≡ bytes_eq text other → b ≡ false → bytes_eq word other ≡ false
-other_word b text word other same h is = unequal-word word other (not_word b text word other same h is)
 
 -- a word that asks for the usage
 pub at_help : (s : Settings) (w : List ℕ) (rest : List (List ℕ)) → bytes_eq w (codes "--help") ≡ true → asked s (w ∷ rest) ≡ Some Help

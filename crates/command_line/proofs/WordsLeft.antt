@@ -1,5 +1,5 @@
 -- Lemmas on the words that are left of a command line, of whatever is asked of them. Assumes nothing.
-use Rattle.std.proofs.Common.{◌≡◌, ℕ, List, [], ◌∷◌, map, length, ap, ◌∙◌, sym, subst}
+use Rattle.std.proofs.Common.{◌≡◌, ℕ, List, [], ◌∷◌, map, length, ap, ◌∙◌, sym}
 use Rattle.std.proofs.lemmas.List.{nil_from_length}
 
 module _ {A W : Type 0} (ask : List (List ℕ) → A) (f : W → List ℕ) (ws : List W) (a : A) (inv : ask (map f ws) ≡ a) where

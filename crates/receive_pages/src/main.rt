@@ -114,8 +114,9 @@ fn take_shown(rt: &HostRuntime, page: u8, intake: &mut Intake) -> anyhow::Result
     let mut shown = String::new(rt.alloc());
     show_followed(rt, page, intake.store.as_slice(), &mut shown)?;
     each_line(rt.alloc(), input, |number, line| {
-        let taken = intake.take_text(trim_newline(line), number);
-        say_untaken(rt, number, taken)?;
+        if let Err(e) = intake.take_text(trim_newline(line), number) {
+            say_untaken(rt, number, e)?;
+        }
         show_followed(rt, page, intake.store.as_slice(), &mut shown)
     })?;
     Ok(())
@@ -125,8 +126,9 @@ fn take_shown(rt: &HostRuntime, page: u8, intake: &mut Intake) -> anyhow::Result
 fn take_gathered(rt: &HostRuntime, intake: &mut Intake) -> anyhow::Result<()> {
     let input = BufReader::new(rt.alloc(), rt.stdin())?;
     let count = each_line(rt.alloc(), input, |number, line| -> anyhow::Result<()> {
-        let gathered = intake.gather(trim_newline(line), number);
-        say_untaken(rt, number, gathered)?;
+        if let Err(e) = intake.gather(trim_newline(line), number) {
+            say_untaken(rt, number, e)?;
+        }
         if intake.waiting.len() >= MOST_WAITING {
             flush(rt, number, intake)?;
         }
@@ -138,16 +140,17 @@ fn take_gathered(rt: &HostRuntime, intake: &mut Intake) -> anyhow::Result<()> {
 // Takes the lines that wait, up to the one with this number. They are whole lines, and the store was checked, so none is turned away here; if they were, it
 // would be said as of any line.
 fn flush(rt: &HostRuntime, number: u64, intake: &mut Intake) -> anyhow::Result<()> {
-    let taken = intake.take_waiting().map_err(TakeError::TurnedAway);
-    say_untaken(rt, number, taken)
+    if let Err(refusal) = intake.take_waiting() {
+        say_untaken(rt, number, refusal.into())?;
+    }
+    Ok(())
 }
 
-// Says that a line of the input is turned away, if it is; that there is no memory is an error.
-fn say_untaken(rt: &HostRuntime, number: u64, taken: Result<(), TakeError>) -> anyhow::Result<()> {
-    match taken {
-        Ok(()) => {}
-        Err(TakeError::TurnedAway(refusal)) => eprintln!(rt; "line {number}: {refusal}")?,
-        Err(TakeError::Memory(e)) => return Err(e.into()),
+// Says that a line of the input is turned away; that there is no memory is an error.
+fn say_untaken(rt: &HostRuntime, number: u64, e: TakeError) -> anyhow::Result<()> {
+    match e {
+        TakeError::TurnedAway(refusal) => eprintln!(rt; "line {number}: {refusal}")?,
+        TakeError::Memory(none) => return Err(none.into()),
     }
     Ok(())
 }

@@ -1,5 +1,5 @@
 -- Each turn takes the word at hand, with the number behind it.
-use Rattle.std.proofs.Common.{string_bytes, refl, sym, ap, ◌∙◌}
+use Rattle.std.proofs.Common.{string_bytes, sym, ◌∙◌}
 use Rattle.command_line.proofs.DamageWords.{at_help, at_last, at_setting, no_number, no_setting, one_setting, at_end}
 use Rattle.command_line.proofs.WordsLeft.{none_left, first_left, last_left, two_left}
 use Rattle.command_line.specs.Damage.{asked}

@@ -1,4 +1,4 @@
-use Rattle.std.proofs.Common.{◌+◌, [], ◌∷◌, ◌++◌, refl, ap, sym, ◌∙◌, arith, of_calls}
+use Rattle.std.proofs.Common.{◌+◌, [], ◌∷◌, ◌++◌, refl, ap, ◌∙◌, arith, of_calls}
 use Rattle.std.proofs.lemmas.List.{length_push}
 use Rattle.command_line.proofs.LinesTaken.{took_more, begins_none, begins_more, begins_end}
 use Rattle.command_line.proofs.input.each_line.Goals as goal

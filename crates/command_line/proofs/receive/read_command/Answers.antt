@@ -1,5 +1,5 @@
 -- Each turn takes the word at hand, by what the word is.
-use Rattle.std.proofs.Common.{Some, None, string_bytes, refl, sym, ap, ◌∙◌}
+use Rattle.std.proofs.Common.{None, string_bytes, sym, ap, ◌∙◌}
 use Rattle.std.specs.Result.{result_ok}
 use Rattle.std.proofs.lemmas.Result.{err_from_is_err_and}
 use Rattle.command_line.proofs.ReceiveWords.{at_help, at_option, at_last, at_page, if_some, if_denied, says_wrong, at_end}

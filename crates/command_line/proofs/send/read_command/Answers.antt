@@ -1,6 +1,5 @@
 -- Each turn takes the word at hand, by what the word is.
-use Rattle.std.proofs.Common.{◌≡◌, List, ◌∷◌, map, string_bytes, sym, ap, ◌∙◌}
-use Rattle.std.specs.Slice.Iter.{iter_rest}
+use Rattle.std.proofs.Common.{string_bytes, sym, ap, ◌∙◌}
 use Rattle.command_line.proofs.SendWords.{at_help, at_rounds, at_last, at_other, with_some, with_none, at_end}
 use Rattle.command_line.proofs.WordsLeft.{none_left, first_left, last_left, two_left}
 use Rattle.command_line.specs.Send.{asked_behind, send, meant}
