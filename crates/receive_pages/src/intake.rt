@@ -1,5 +1,5 @@
 // Taking a line of the input by itself: hex digits into bytes, and the bytes into the store.
-ghost use Rattle.std.specs.Prelude.{◌≡◌, [], length, Some, OnOk, IfErr, MatchOption, MatchResult};
+ghost use Rattle.std.specs.Prelude.{◌≡◌, [], Some, OnOk, IfErr};
 ghost use Rattle.text.specs.Hex.{line_bytes};
 ghost use Rattle.receive_pages.specs.Intake.{Unread, Received, Taken, Says, said};
 ghost use Rattle.receive_pages.specs.declared.intake.TakeError.TheVariants.{TurnedAway, Memory};
