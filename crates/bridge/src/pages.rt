@@ -12,6 +12,7 @@ const NO_VERSION: u64 = 256;
 pub extern "C" fn demborugy_row(store: &[u8], page: u64, at: u64, place: &mut usize) -> usize
     ensures { RowAt store.now page at place.new result }
 {
+    // by a `match`: of the pair that `map_or` gives, the proof knows nothing
     match row_place(store, page, at) {
         Some(found) => {
             *place = found;

@@ -8,7 +8,7 @@ pub(crate) const CODE_WORDS: [u8; 16] = [
     21, 2, 73, 94, 100, 115, 56, 47, 208, 199, 140, 155, 161, 182, 253, 234,
 ];
 
-// What each of the 256 bytes is read as.
+// What each of the 256 bytes is read as: numbers and no options, so that the rule of the table is one test computed over all of them.
 pub(crate) const NUMBERS: [u8; 256] = [
     1, 16, 1, 1, 16, 0, 1, 16, 16, 2, 1, 16, 10, 16, 16, 7, 16, 0, 1, 16, 0, 0, 16, 0, 6, 16, 16,
     11, 16, 0, 3, 16, 16, 12, 1, 16, 4, 16, 16, 7, 6, 16, 16, 7, 16, 7, 7, 7, 6, 16, 16, 5, 16, 0,

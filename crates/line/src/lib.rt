@@ -26,7 +26,7 @@ pub struct Line {
     pub letters: [u8; COLUMNS],
 }
 
-// What the six numbers of a line say.
+// What the six numbers of a line say. They stand in `Line` again, so that a theorem names a line's page in one word.
 #[derive(Clone, Copy)]
 pub struct Header {
     pub page: u8,

@@ -51,6 +51,7 @@ pub(super) fn read_item<'a>(line: &'a [u8]) -> Option<Item<'a>>
     if let [] | [COMMENT, ..] = line {
         return Some(Item::Pass);
     }
+    // no `or_else`: a function that answers a part of the line is not covered there
     if let Some(heading) = read_heading(line) {
         return Some(Item::Heading(heading));
     }

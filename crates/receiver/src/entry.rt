@@ -7,7 +7,7 @@ use crate::checked::Checked;
 use crate::refusal::{Refusal, accept, place};
 use line::Line;
 
-// What taking a line answers.
+// What taking a line answers: one enum, since whoever sent the line is told that it is lost or finds no room as much as that it is turned away.
 #[derive(Clone, Copy, Debug, PartialEq, Eq)]
 pub enum Done {
     // What the line says was applied to the store's pages.

@@ -14,7 +14,7 @@ pub const MOST_SLOTS: usize = 60;
 // What stands in place of a letter that isn't known.
 pub const NO_LETTER: u8 = 0;
 
-// The mark of a slot that holds a page; a free slot has `FREE`.
+// The mark of a slot that holds a page; a free slot has `FREE`. They are bytes of the format, and so no enum.
 pub(crate) const TAKEN: u8 = 1;
 
 pub(crate) const FREE: u8 = 0;

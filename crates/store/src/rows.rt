@@ -33,6 +33,7 @@ pub fn row_place(store: &[u8], page: u64, at: u64) -> Option<usize>
 pub fn row<'a>(store: &'a [u8], page: u64, at: u64) -> &'a [u8]
     ensures { RowOf store.now page at result.now }
 {
+    // a part of no bytes stands for no row, as the format has it
     match row_place(store, page, at) {
         Some(place) => &store[place..place + COLUMNS],
         None => &store[0..0],

@@ -97,6 +97,7 @@ pub fn write_hex(bytes: &[u8], out: &mut String) -> Result<(), AllocError>
     ensures room { string_len out.old + length bytes.now * 3 ≤ string_capacity out.old → is_ok result ≡ true }
     ensures law { WrittenIsRead }
 {
+    // by hand: what `write!` leaves where there is no memory isn't known
     room::reserve(out, bytes.len(), WIDTH)?;
     for (i, byte) in bytes.iter().enumerate() {
         if i > 0 {

@@ -1,4 +1,4 @@
-// The values of the hex digits, by their codes; 255 where a byte is no digit.
+// The values of the hex digits, by their codes; 255 where a byte is no digit, since `None` two hundred times over would say no more.
 pub const DIGITS: [u8; 256] = [
     255, 255, 255, 255, 255, 255, 255, 255, 255, 255, 255, 255, 255, 255, 255, 255, 255, 255, 255,
     255, 255, 255, 255, 255, 255, 255, 255, 255, 255, 255, 255, 255, 255, 255, 255, 255, 255, 255,
