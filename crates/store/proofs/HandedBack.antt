@@ -24,9 +24,6 @@ found_in s n (Some i) ok found = (ok, found)
 
 -- ROWS
 
-pub no_such_row : (s : List ℕ) (n r : ℕ) → 25 ≤ r → has_row s n r ≡ false
-no_such_row s n r h = and_right (well_formed s) ((page_in s n).there && ltb r 25) (and_right (page_in s n).there (ltb r 25) (le-ltb _ _ h))
-
 pub place_found : (s : List ℕ) (n r i : ℕ) → r < 25 → well_formed s ≡ true → Found s n i → RowPlace s n r (row_start i r)
 place_found s n r i hr ok w = record {
   there = and_from _ _ ok (and_from _ _ (page_there s n i ok w.within w.here) (lt-ltb _ _ hr));

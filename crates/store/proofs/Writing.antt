@@ -1,4 +1,4 @@
--- One more byte cleared, a slot begun, and a line merged into it. Assumes nothing.
+-- A slot begun, and a line merged into it. Assumes nothing.
 use Rattle.std.proofs.Common.{◌≡◌, ℕ, ◌+◌, ◌-◌, ◌*◌, ◌<◌, ◌≤◌, true, false, ltb, ◌⊎◌, List, length, get_or, set, sym, refl, ap, ◌∙◌, subst, inl, inr, ⊎_elim, arith, get_or-set_other, get_or-set_same, below_more}
 use Rattle.std.proofs.lemmas.Bool.{cond_both, cases_lt, cases_eq}
 use Rattle.coding.specs.Parity.{decode_letter}
@@ -6,14 +6,8 @@ use Rattle.coding.proofs.Letters.{letter_or_none}
 use Rattle.store.specs.Page.{merge}
 use Rattle.store.specs.Layout.{slots, mark_at, number_at, holds, letter_fine, well_formed}
 use Rattle.store.specs.Slots.{OnlySlot}
-use Rattle.store.specs.Writes.{row_start, Cleared, Begun, Merged}
+use Rattle.store.specs.Writes.{row_start, Begun, Merged}
 use Rattle.store.proofs.Formed.{formed, changed_slot, no_other, holds_from, holds_same, other_mark, other_holds}
-
-pub clear_more : (s t : List ℕ) (at n : ℕ) → Cleared s t at n → at + n < length t → Cleared s (set t (at + n) 0) at (n + 1)
-clear_more s t at n w room = record {
-  inside = below_more (λ c. get_or (set t (at + n) 0) (at + c) 0 ≡ 0) n (λ c h. get_or-set_other t (at + n) (at + c) 0 0 (omega arith) ∙ w.inside c h) (get_or-set_same t (at + n) 0 0 room);
-  outside = λ k h. get_or-set_other t (at + n) k 0 0 (λ e. ⊎_elim (λ lt. omega arith) (λ le. omega arith) h) ∙ w.outside k (⊎_elim inl (λ le. inr (omega arith)) h);
-}
 
 zero_fine : letter_fine 0 ≡ true
 unfolding letter_fine

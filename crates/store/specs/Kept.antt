@@ -1,4 +1,4 @@
--- The law of an index, of a directory: it agrees with every store in which the same pages stand in the same slots. Assumes nothing.
+-- The law of an index, of a directory: it agrees with every store in which the same pages stand in the same slots. A proof, and it stands here since a ghost member in src/ can cite nothing else of its own crate. Assumes nothing.
 use Rattle.std.proofs.Common.{◌≡◌, ℕ, ◌/◌, ◌<◌, List, Option, Some, None, sym, ap, ◌∙◌, subst}
 use Rattle.store.specs.Layout.{slots, holds}
 use Rattle.store.specs.Directory.{EntryOf, ListsBelow, Lists, SamePlaces}

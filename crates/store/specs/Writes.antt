@@ -14,10 +14,6 @@ unfoldable pub held_below : List ℕ → ℕ → ℕ → Bool
 held_below s n zero = false
 held_below s n (suc i) = holds s n i || held_below s n i
 
--- a table says of each page whether one of the first i slots holds it
-abbrev pub Seen : List ℕ → List Bool → ℕ → Type 0
-Seen s table i = (n : ℕ) → n < 256 → slice_index_or table n false ≡ held_below s n i
-
 -- slot i holds page n
 pub record Found (s : List ℕ) (n i : ℕ) : Type 0 where
   pub within : i < slots s
@@ -28,11 +24,6 @@ pub record Free (s : List ℕ) (i : ℕ) : Type 0 where
   pub within : i < slots s
   pub here : mark_at s i ≡ 0
   pub before : (k : ℕ) → k < i → mark_at s k ≢ 0
-
--- n bytes from a place on are 0, and no other byte changed
-pub record Cleared (s s₁ : List ℕ) (at n : ℕ) : Type 0 where
-  pub inside : (k : ℕ) → k < n → slice_index s₁ (at + k) ≡ 0
-  pub outside : (k : ℕ) → (k < at) ⊎ (at + n ≤ k) → slice_index s₁ k ≡ slice_index s k
 
 -- slot i was begun with page n in version v, no letter known
 pub record Begun (s s₁ : List ℕ) (i n v : ℕ) : Type 0 where

@@ -38,6 +38,7 @@ impl SlotIndex for Directory {
     }
 
     fn note(&mut self, page: u8, slot: usize) {
+        // a slot's number is below 60, so it is one of 8 bits
         self.entries[usize::from(page)] = u8::try_from(slot).ok();
     }
 

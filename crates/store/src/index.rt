@@ -4,7 +4,7 @@ ghost use Rattle.store.specs.Layout.{slots, mark_at, holds};
 ghost use Rattle.store.specs.Directory.{SamePlaces};
 ghost use Rattle.store.specs.Writes.{Found, Free, Begun};
 
-// What tells in which slot of a store each page stands, and is told of each page that is begun.
+// What tells in which slot of a store each page stands, and is told of each page that is begun. Only this crate has such: its module is private.
 pub trait SlotIndex {
     // whether it agrees with a store
     ghost agrees: { List ℕ → Self → Type 0 };
