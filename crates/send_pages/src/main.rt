@@ -7,7 +7,7 @@ use command_line::send::{Command, read_command};
 use command_line::words::{behind_name, if_utf8, print_usage, refuse};
 use page_text::{Page, TextError, read_pages};
 use sending::Sending;
-use std::env;
+use std::{env, io};
 use std::io::Read;
 use std::process::ExitCode;
 
@@ -22,7 +22,7 @@ fn main(rt: HostRuntime) -> anyhow::Result<ExitCode> {
     let Some(args) = if_utf8(env::args(&rt))? else {
         return Ok(refuse(&rt, USAGE));
     };
-    let words = behind_name(rt.alloc(), args)?;
+    let words = behind_name(rt.alloc(), args).map_err(io::Error::from)?;
     match read_command(words.as_slice()) {
         Some(Command::Help) => print_usage(&rt, USAGE),
         Some(Command::Send(rounds)) => run(&rt, rounds),
