@@ -7,9 +7,9 @@ use command_line::send::{Command, read_command};
 use command_line::words::{behind_name, if_utf8, print_usage, refuse};
 use page_text::{Page, TextError, read_pages};
 use sending::Sending;
-use std::{env, io};
 use std::io::Read;
 use std::process::ExitCode;
+use std::{env, io};
 
 const USAGE: &str = "usage: send_pages [--rounds N]
 Reads a page text from standard input, and writes the lines of its pages in hex,

@@ -1,9 +1,9 @@
 // A store's file read.
 ghost use Rattle.std.specs.Prelude.{◌≡◌, ◌≤◌, IfSome, IfOk, vec_len, MatchOption, MatchResult};
-ghost use Rattle.std.specs.declared.io.Error.{Error};
-ghost use Rattle.store_file.specs.declared.file.OpenError.TheVariants.{Io};
 ghost use Rattle.std.specs.IoError.{error_kind};
+ghost use Rattle.std.specs.declared.io.Error.{Error};
 ghost use Rattle.std.specs.declared.io.ErrorKind.TheVariants.{OutOfMemory};
+ghost use Rattle.store_file.specs.declared.file.OpenError.TheVariants.{Io};
 ghost use Rattle.store_file.specs.StoreFile.{Held, Judged, Denies, no_pages, most_read};
 
 use crate::contents::{Unusable, check_contents, new_store};
