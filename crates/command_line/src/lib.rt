@@ -1,4 +1,4 @@
-// The command lines of the programs: their words, and what these ask for.
+// The command lines of the programs, their words and what these ask for; and the lines of what a program reads.
 #![tactic(auto)]
 
 pub mod damage;

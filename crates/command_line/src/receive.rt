@@ -14,7 +14,7 @@ const STORE: &str = "--store";
 
 const FOLLOW: &str = "--follow";
 
-const LAST_PAGE: u8 = 255;
+const LAST_PAGE: u8 = u8::MAX;
 
 // What to receive into, and what to print.
 #[derive(Drop, Debug, PartialEq, Eq)]
@@ -45,7 +45,7 @@ pub enum Valued {
 }
 
 // Why a command line isn't followed.
-#[derive(Clone, Copy, Drop, Debug, PartialEq, Eq)]
+#[derive(Clone, Copy, Debug, PartialEq, Eq)]
 pub enum OptionsError {
     // Its words are wrong.
     Wrong,

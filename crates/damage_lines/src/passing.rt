@@ -5,6 +5,7 @@ ghost use Rattle.damage_lines.specs.Passing.{line_in, Came, after_line, Written,
 
 use channel::{Random, Rates, damage};
 use command_line::damage::Settings;
+use line::Line;
 use std::alloc::{AllocError, Global};
 use text::hex::{HexError, read_hex, write_hex};
 use text::lines::trim_newline;
@@ -23,6 +24,7 @@ pub struct Air {
 }
 
 impl Air {
+    // Air that nothing came over yet.
     pub fn new(heap: Global, settings: Settings) -> Air
         ensures settings { result.settings ≡ settings }
         ensures state { result.random.state ≡ seeded settings.seed }
@@ -56,7 +58,7 @@ impl Air {
     }
 
     // What comes of a line: nothing if it is lost.
-    fn carry(&mut self, line: &[u8; 46]) -> Option<[u8; 46]>
+    fn carry(&mut self, line: &[u8; Line::LENGTH]) -> Option<[u8; Line::LENGTH]>
         ensures came { Came self.old.settings self.old.random.state line.now result }
         ensures state { self.new.random.state ≡ after_line self.old.settings self.old.random.state }
         ensures settings { self.new.settings ≡ self.old.settings }
@@ -74,11 +76,11 @@ impl Air {
 }
 
 // The line that a row spells, if it is 46 bytes in hex; `bytes` is room for it.
-fn read_line(row: &[u8], bytes: &mut Vec<u8>) -> Result<Option<[u8; 46]>, AllocError>
+fn read_line(row: &[u8], bytes: &mut Vec<u8>) -> Result<Option<[u8; Line::LENGTH]>, AllocError>
     ensures { IfOk result (λ o. o ≡ line_in row.now) }
 {
     match read_hex(trim_newline(row), bytes) {
-        Ok(()) => Ok(<[u8; 46]>::try_from(bytes.as_slice()).ok()),
+        Ok(()) => Ok(<[u8; Line::LENGTH]>::try_from(bytes.as_slice()).ok()),
         Err(HexError::NotHex) => Ok(None),
         Err(HexError::Memory(e)) => Err(e),
     }

@@ -20,7 +20,8 @@ impl Intake {
         let length = self.bytes.len();
         if length == Line::LENGTH {
             let line = self.bytes.as_slice();
-            return Ok(self.waiting.extend_from_slice(line)?);
+            self.waiting.extend_from_slice(line)?;
+            return Ok(());
         }
         if length == 0 {
             return Ok(());

@@ -1,4 +1,4 @@
-// Taking a line of the input by itself: hex digits into bytes, and the bytes into the store.
+// What the input is taken into, and taking a line of it by itself: hex digits into bytes, and the bytes into the store, or why not.
 ghost use Rattle.std.specs.Prelude.{◌≡◌, [], Some, OnOk, IfErr};
 ghost use Rattle.text.specs.Hex.{line_bytes};
 ghost use Rattle.receive_pages.specs.Intake.{Unread, Received, Taken, Says, said};

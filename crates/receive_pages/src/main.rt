@@ -37,7 +37,7 @@ fn main(rt: HostRuntime) -> anyhow::Result<ExitCode> {
     let Some(args) = if_utf8(env::args(&rt))? else {
         return Ok(refuse(&rt, USAGE));
     };
-    let words = behind_name(rt.alloc(), args)?;
+    let words = behind_name(rt.alloc(), args).map_err(io::Error::from)?;
     match read_command(rt.alloc(), words.as_slice()) {
         Ok(Command::Help) => print_usage(&rt, USAGE),
         Ok(Command::Receive(options)) => receive_pages(&rt, &options),
@@ -53,8 +53,8 @@ fn receive_pages(rt: &HostRuntime, options: &Options) -> anyhow::Result<ExitCode
             run(rt, options, store)?;
             Ok(ExitCode::SUCCESS)
         }
-        Err(OpenError::Unfit(Unusable::Fault(slot))) => refuse_store(rt, slot),
-        Err(OpenError::Unfit(Unusable::OtherSlots)) => Ok(refuse(rt, USAGE)),
+        Err(OpenError::Unfit(_, Unusable::Fault(slot))) => refuse_store(rt, slot),
+        Err(OpenError::Unfit(_, Unusable::OtherSlots)) => Ok(refuse(rt, USAGE)),
         Err(OpenError::Io(e)) => Err(store_error(e)),
     }
 }

@@ -7,9 +7,9 @@ use command_line::send::{Command, read_command};
 use command_line::words::{behind_name, if_utf8, print_usage, refuse};
 use page_text::{Page, TextError, read_pages};
 use sending::Sending;
-use std::env;
 use std::io::Read;
 use std::process::ExitCode;
+use std::{env, io};
 
 const USAGE: &str = "usage: send_pages [--rounds N]
 Reads a page text from standard input, and writes the lines of its pages in hex,
@@ -22,7 +22,7 @@ fn main(rt: HostRuntime) -> anyhow::Result<ExitCode> {
     let Some(args) = if_utf8(env::args(&rt))? else {
         return Ok(refuse(&rt, USAGE));
     };
-    let words = behind_name(rt.alloc(), args)?;
+    let words = behind_name(rt.alloc(), args).map_err(io::Error::from)?;
     match read_command(words.as_slice()) {
         Some(Command::Help) => print_usage(&rt, USAGE),
         Some(Command::Send(rounds)) => run(&rt, rounds),

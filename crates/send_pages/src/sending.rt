@@ -65,7 +65,7 @@ impl<'a> Sending<'a> {
     {
         if let Some(line) = next_line(self.pages, &mut self.schedule) {
             write_hex(&line, &mut self.lines)?;
-            self.lines.push_str("\n")?;
+            self.lines.push('\n')?;
         }
         Ok(())
     }

@@ -1,5 +1,5 @@
 -- What the contents of a store's file are. Assumes nothing: these are definitions.
-use Rattle.std.specs.Prelude.{◌≡◌, ℕ, ◌+◌, ◌*◌, Bool, true, false, not, List, replicate, IfNone, Some, None, Option, Ok, Err, Result, ◌==◌}
+use Rattle.std.specs.Prelude.{◌≡◌, ℕ, ◌+◌, ◌*◌, Bool, true, false, not, List, replicate, IfNone, Some, None, Option, Ok, Err, Result, vec_items, ◌==◌}
 use Rattle.std.specs.Option.{unwrap_or}
 use Rattle.store.specs.Layout.{slots, well_formed, FirstFault}
 use Rattle.store_file.specs.declared.contents.Unusable.{Unusable}
@@ -26,10 +26,10 @@ no_pages asked = replicate (1003 * unwrap_or asked 60) 0
 abbrev pub Held : {P : Type 0} → Option P → Option ℕ → List ℕ → Type 0
 Held path asked s = IfNone path (s ≡ no_pages asked)
 
--- what an error says of the bytes that are opened: what they are, if they could be read
+-- what an error says of the bytes that are opened, and that it hands back: what they are, if they could be read
 abbrev pub Denies : {P : Type 0} → Option P → Option ℕ → OpenError → Type 0
 Denies path asked (Io e) = Unit {0}
-Denies path asked (Unfit why) = (s : List ℕ) × Held path asked s × Judged s asked (Err why)
+Denies path asked (Unfit store why) = Held path asked (vec_items store) × Judged (vec_items store) asked (Err why)
 
 -- the most bytes that are read of a file: one more than a store of 60 slots has
 abbrev pub most_read : ℕ

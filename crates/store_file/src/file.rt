@@ -1,7 +1,9 @@
 // A store's file read.
 ghost use Rattle.std.specs.Prelude.{◌≡◌, ◌≤◌, IfSome, IfOk, vec_len, MatchOption, MatchResult};
+ghost use Rattle.std.specs.IoError.{error_kind};
 ghost use Rattle.std.specs.declared.io.Error.{Error};
-ghost use Rattle.store_file.specs.declared.file.OpenError.TheVariants.{Io, Unfit};
+ghost use Rattle.std.specs.declared.io.ErrorKind.TheVariants.{OutOfMemory};
+ghost use Rattle.store_file.specs.declared.file.OpenError.TheVariants.{Io};
 ghost use Rattle.store_file.specs.StoreFile.{Held, Judged, Denies, no_pages, most_read};
 
 use crate::contents::{Unusable, check_contents, new_store};
@@ -18,8 +20,8 @@ const MOST_READ: usize = SLOT_SIZE * MOST_SLOTS + 1;
 pub enum OpenError {
     // The file can't be read, or there is no memory.
     Io(io::Error),
-    // What the file holds is none.
-    Unfit(Unusable),
+    // What the file holds is none: its bytes, and why.
+    Unfit(Vec<u8>, Unusable),
 }
 
 impl From<io::Error> for OpenError {
@@ -31,18 +33,10 @@ impl From<io::Error> for OpenError {
 }
 
 impl From<AllocError> for OpenError {
-    ghost from_gives = { λ _ r. (e : Error) × (r ≡ Io e) };
+    ghost from_gives = { λ _ r. (e : Error) × (r ≡ Io e) × (error_kind e ≡ OutOfMemory) };
 
     fn from(e: AllocError) -> OpenError {
         OpenError::Io(e.into())
-    }
-}
-
-impl From<Unusable> for OpenError {
-    ghost from_gives = { λ why r. r ≡ Unfit why };
-
-    fn from(why: Unusable) -> OpenError {
-        OpenError::Unfit(why)
     }
 }
 
@@ -59,8 +53,10 @@ pub fn open_store(
         None => None,
     };
     let store = kept_or_new(rt.alloc(), kept, slots)?;
-    check_contents(store.as_slice(), slots)?;
-    Ok(store)
+    match check_contents(store.as_slice(), slots) {
+        Ok(()) => Ok(store),
+        Err(why) => Err(OpenError::Unfit(store, why)),
+    }
 }
 
 // The bytes that a file held, or a new store if there was no file.
