@@ -1,5 +1,6 @@
 -- What the trials count. Assumes nothing: these are definitions.
-use Rattle.std.specs.Prelude.{ℕ, ◌+◌, ◌-◌, ◌^◌, min, Bool, true, false}
+use Rattle.std.specs.Prelude.{ℕ, ◌+◌, ◌-◌, ◌^◌, min, Bool, true, false, List, [], ◌∷◌, ◌++◌, codes}
+use Rattle.std.specs.Fmt.{decimal}
 use Rattle.trials.specs.declared.tally.Tally.{Tally}
 use Rattle.receiver.specs.declared.entry.Done.{Done}
 use Rattle.receiver.specs.declared.entry.Done.TheVariants.{Took, Lost, Full, Refused}
@@ -31,3 +32,18 @@ with_row t = record t { letters = more t.letters 40 }
 abbrev pub with_recovery : Tally → Bool → Tally
 with_recovery t true = record t { recovered = more t.recovered 1 }
 with_recovery t false = record t { without_room = more t.without_room 1 }
+
+-- the counts as they are printed, in three lines: of lines by their answers, of letters, and of pages
+abbrev pub lines_text : Tally → List ℕ
+lines_text t =
+    codes "lines: "
+    ++ (decimal t.taken ++ (codes " taken, " ++ (decimal t.lost ++ (codes " lost, " ++ (decimal t.full ++ (codes " without room, " ++ (decimal t.refused ++ (codes " refused" ++ 10 ∷ []))))))))
+
+abbrev pub letters_text : Tally → List ℕ
+letters_text t = codes "letters compared: " ++ (decimal t.letters ++ 10 ∷ [])
+
+abbrev pub pages_text : Tally → List ℕ
+pages_text t = codes "pages sent whole: " ++ (decimal t.recovered ++ (codes " recovered, " ++ (decimal t.without_room ++ codes " without room")))
+
+abbrev pub tally_text : Tally → List ℕ
+tally_text t = lines_text t ++ (letters_text t ++ pages_text t)

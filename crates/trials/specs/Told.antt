@@ -1,5 +1,5 @@
 -- The pages as the reference keeps them: for each number a page, in a version and with its letters row by row, or none. Assumes nothing: these are definitions.
-use Rattle.std.specs.Prelude.{◌≡◌, ℕ, ◌+◌, ◌*◌, ◌/◌, ◌%◌, ◌<◌, true, cond, List, Some, None, Option, ◌==◌, ◌≢◌, count_ones, option_map, slice_index, slice_index_or}
+use Rattle.std.specs.Prelude.{◌≡◌, ℕ, ◌+◌, ◌*◌, ◌/◌, ◌%◌, ◌<◌, true, cond, List, Some, None, Option, ◌==◌, ◌≢◌, count_ones, slice_index, slice_index_or}
 use Rattle.store.specs.Page.{Page, no_page}
 use Rattle.trials.specs.Text.{text_letter}
 use Rattle.line.specs.declared.Line.{Line}
@@ -10,10 +10,6 @@ use Rattle.trials.specs.declared.sent.Sent.{Sent}
 -- page n, if it is there
 abbrev pub told : (pages : List (Option ReferencePage)) → ℕ → Option ReferencePage
 told pages n = slice_index_or pages n None
-
--- the version of page n, if it is there
-abbrev pub version_told : (pages : List (Option ReferencePage)) → ℕ → Option ℕ
-version_told pages n = option_map (λ p. p.version) (told pages n)
 
 -- the letter of a page at row r and column c
 abbrev pub letter_told : (letters : List ℕ) (r c : ℕ) → ℕ

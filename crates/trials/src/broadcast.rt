@@ -1,6 +1,5 @@
 // A random broadcast: lines of a few pages in any order, lost, late and twice, whose versions change from time to time.
-ghost use Rattle.std.specs.Prelude.{◌≡◌, ◌<◌, ◌≤◌, [], All, IfOk, IfSome};
-ghost use lib.ListN.{replicate};
+ghost use Rattle.std.specs.Prelude.{◌≡◌, ◌<◌, ◌≤◌, [], All, IfOk, IfSome, replicate};
 ghost use Rattle.trials.specs.declared.sent.Sent.{Sent};
 ghost use Rattle.line.specs.Damage.{row_line};
 ghost use Rattle.channel.specs.Random.{drawn_below, comes_about};

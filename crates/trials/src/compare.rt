@@ -63,9 +63,8 @@ fn none_missing(store: &[u8], reference: &Reference) -> bool
 fn holds_page(store: &[u8], number: u8) -> bool
     ensures { Decides result ((i : ℕ) × Found store.now number i) }
 {
-    store
-        .chunks_exact(SLOT_SIZE)
-        .any(|slot| slot.starts_with(&[TAKEN, number]))
+    let mut slots = store.chunks_exact(SLOT_SIZE);
+    slots.any(|slot| slot.starts_with(&[TAKEN, number]))
 }
 
 // Whether a line left what it may not change: all but the slot of its page if it was taken, and every byte if it wasn't.

@@ -19,7 +19,7 @@ use std::array;
 use store::{MOST_SLOTS, NO_LETTER, SLOT_SIZE, version};
 
 // How many pages are drawn from, and how many odd numbers for the distance of their numbers.
-const PAGES: u64 = 100;
+const MOST_PAGES: u64 = 100;
 
 // How many versions.
 const VERSIONS: u64 = 4;
@@ -57,9 +57,9 @@ pub fn run_recovery(heap: Global, seed: u64, tally: &mut Tally) -> Result<bool, 
     let slots = 1 + draw_index(&mut random, MOST_SLOTS);
     let store = vec![in heap; 0u8; SLOT_SIZE * slots]?;
     let mut recovery = Recovery { store, random };
-    let stride = 1 + 2 * draw_byte(&mut recovery.random, PAGES);
+    let stride = 1 + 2 * draw_byte(&mut recovery.random, MOST_PAGES);
     recovery.fill(stride);
-    let page = draw_byte(&mut recovery.random, PAGES).wrapping_mul(stride);
+    let page = draw_byte(&mut recovery.random, MOST_PAGES).wrapping_mul(stride);
     let was_there = recovery.has_page(page);
     let sent = Sent {
         page,

@@ -1,6 +1,6 @@
 // The reference: a receiver that is told which line was sent and which bits were turned on the way, and never decodes a byte.
-ghost use Rattle.std.specs.Prelude.{◌≡◌, ℕ, ◌<◌, ◌≤◌, length, vec_len, Decides, count_by, is_some, option_copied, slice_index};
-ghost use Rattle.trials.specs.Told.{told, version_told, letter_told, AllSent, TwoTurned, RowPut};
+ghost use Rattle.std.specs.Prelude.{◌≡◌, ℕ, ◌<◌, ◌≤◌, length, vec_len, Decides, count_by, is_some, option_copied, slice_index, ◌≢◌};
+ghost use Rattle.trials.specs.Told.{told, letter_told, AllSent, TwoTurned, RowPut};
 ghost use Rattle.trials.specs.Answers.{Due, lost_after, full_after};
 
 use crate::came::Came;
@@ -98,13 +98,6 @@ impl Reference {
         self.pages[usize::from(number)].as_ref()
     }
 
-    // Its version.
-    pub fn version(&self, number: u8) -> Option<u8>
-        ensures { result ≡ version_told self.now.pages.items number }
-    {
-        self.page(number).map(|page| page.version)
-    }
-
     // How many pages are there.
     fn count(&self) -> usize
         ensures { result ≡ count_by is_some self.now.pages.items }
@@ -121,6 +114,7 @@ impl Reference {
         ensures answer { Due result (TwoTurned came.now.bits) (is_some (told self.old.pages.items came.now.sent.page)) (count_by is_some self.old.pages.items) self.old.slots }
         ensures lost { self.new.counts.lost ≡ lost_after self.old.counts.lost result }
         ensures full { self.new.counts.full ≡ full_after self.old.counts.full result }
+        ensures others { (n : ℕ) → n ≢ came.now.sent.page → told self.new.pages.items n ≡ told self.old.pages.items n }
     {
         if came.has_two() {
             self.counts.lost = self.counts.lost.saturating_add(1);

@@ -1,6 +1,6 @@
 // What the trials count; a count stops at its largest.
-ghost use Rattle.std.specs.Prelude.{◌≡◌};
-ghost use Rattle.trials.specs.Counts.{nothing, with_answer, with_row, with_recovery};
+ghost use Rattle.std.specs.Prelude.{◌≡◌, Some};
+ghost use Rattle.trials.specs.Counts.{nothing, with_answer, with_row, with_recovery, tally_text};
 
 use line::COLUMNS;
 use receiver::Done;
@@ -58,6 +58,8 @@ impl Tally {
 
 // As it is printed, in three lines.
 impl fmt::Display for Tally {
+    ghost output = { λ tally. Some (tally_text tally) };
+
     fn fmt<W: fmt::Write>(&self, f: &mut fmt::Formatter<W>) -> fmt::Result {
         let Tally {
             taken,

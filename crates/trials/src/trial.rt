@@ -155,7 +155,7 @@ fn lengthened(line: &[u8; Line::LENGTH]) -> [u8; LONGEST]
     ensures { (k : ℕ) → k < 46 → slice_index result k ≡ slice_index line.now k }
 {
     let mut bytes = [0; LONGEST];
-    bytes[..Line::LENGTH].copy_from_slice(line.as_slice());
+    bytes[..Line::LENGTH].copy_from_slice(line);
     bytes
 }
 

@@ -9,7 +9,7 @@ pub returns : goal.returns
 returns c =
     let s = c.args.store.now in
     let n = c.args.number in
-    let cuts = c.chunks_exact.ensures in
+    let cuts = c.chunks_exact-slots.ensures in
     let tells = any_places _ _ _ _ _ _
     (slot_places _ _ _ s (λ t. (slice_index t 0 ≡ 1) × (slice_index t 1 ≡ n)) cuts.runs cuts.rest cuts.size (λ a b q h. search rules)
     (λ x b q h long. let is : b ≡ starts_with eqb x.now (1 ∷ n ∷ []) = search rules in two_first x.now 1 n b (omega (arith, long)) is)) c.any.result c.any.ensures.runs in
