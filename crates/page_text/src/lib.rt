@@ -29,8 +29,8 @@ const BLANK: u8 = b' ';
 
 const PAGE_LETTERS: usize = ROWS * COLUMNS;
 
-// A text that can't be read is refused with this number.
-const REFUSED_TEXT: u8 = 3;
+// The number of a text that can't be read.
+pub const REFUSED_TEXT: u64 = 3;
 
 // A page as its text gives it: 25 rows of 40 letters, row by row.
 #[derive(Drop)]
@@ -72,6 +72,7 @@ impl fmt::Display for TextError {
 
 impl Error for TextError {}
 
+// The two conversions are written by hand, since a clause of each names the variant that `?` makes.
 impl From<AllocError> for TextError {
     ghost from_gives = { λ _ r. r ≡ Memory };
 

@@ -31,6 +31,7 @@ impl Page {
         ensures version { self.new.version ≡ self.old.version }
         ensures letters { self.new.letters ≡ with_row row.entry.number row.entry.letters.now self.old.letters }
     {
+        // by index: of a slice's rows from `as_chunks_mut`, nothing says what the slice ends as
         let first = COLUMNS * usize::from(row.number);
         self.letters[first..first + COLUMNS].copy_from_slice(&row.padded());
     }

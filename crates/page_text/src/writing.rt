@@ -13,6 +13,7 @@ use std::alloc::{AllocError, Global};
 fn write_heading(heap: Global, page: &Page, out: &mut Vec<u8>) -> Result<(), AllocError>
     ensures { Appended out.old.items out.new.items (ended (heading_line page.now.number page.now.version)) result }
 {
+    // by way of a String: `write!` into the Vec gives an io::Error, which is no AllocError
     let heading = format!(in heap; "page {} version {}\n", page.number, page.version)?;
     out.extend_from_slice(heading.as_bytes())
 }
@@ -26,6 +27,7 @@ fn write_row(
 ) -> Result<(), AllocError>
     ensures { Appended out.old.items out.new.items (ended (decimal row ++ (32 ∷ letters.now))) result }
 {
+    // by way of a String, as in the heading
     let number = format!(in heap; "{row} ")?;
     out.extend_from_slice(number.as_bytes())?;
     out.extend_from_slice(letters)?;
