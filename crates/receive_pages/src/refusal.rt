@@ -2,6 +2,7 @@
 ghost use Rattle.std.specs.Prelude.{◌≡◌, Some};
 ghost use Rattle.receive_pages.specs.Refusal.{number, refusal_text};
 
+use page_text::REFUSED_TEXT;
 use std::fmt;
 
 // Why a line or a store is turned away.
@@ -12,9 +13,6 @@ pub enum Reason {
     // The line isn't bytes in hex.
     Text,
 }
-
-// The number of a refusal of a text.
-const REFUSED_TEXT: u64 = 3;
 
 impl From<Reason> for u64 {
     ghost from_gives = { λ reason n. n ≡ number reason };
