@@ -49,12 +49,7 @@ fn slots_of_four<I: SlotIndex>(store: &mut [u8], index: &mut I) -> [Option<usize
 }
 
 // The slot of a page, once row 1 of it was applied.
-fn applied<I: SlotIndex>(
-    store: &mut [u8],
-    index: &mut I,
-    page: u8,
-    version: u8,
-) -> Option<usize>
+fn applied<I: SlotIndex>(store: &mut [u8], index: &mut I, page: u8, version: u8) -> Option<usize>
     requires formed { well_formed store.old ≡ true }
     requires agrees { I.agrees store.old index.old }
     ensures formed { well_formed store.new ≡ true }
