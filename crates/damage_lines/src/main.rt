@@ -4,7 +4,7 @@
 mod passing;
 
 use command_line::damage::{Command, Settings, read_command};
-use command_line::input::each_line;
+use command_line::input::{InputError, each_line};
 use command_line::words::{behind_name, print_usage, refuse};
 use passing::Air;
 use std::env;
@@ -36,14 +36,18 @@ fn main(rt: HostRuntime) -> anyhow::Result<ExitCode> {
 fn run(rt: &HostRuntime, settings: Settings) -> anyhow::Result<()> {
     let input = BufReader::new(rt.alloc(), rt.stdin())?;
     let mut air = Air::new(rt.alloc(), settings);
-    each_line(rt.alloc(), input, |_number, row| -> anyhow::Result<()> {
-        air.pass_row(row)?;
-        if air.out.len() >= WRITTEN_AT {
-            rt.stdout().write_all(air.out.as_slice())?;
-            air.out.clear();
-        }
-        Ok(())
-    })?;
+    each_line(
+        rt.alloc(),
+        input,
+        |_number, row| -> Result<(), InputError> {
+            air.pass_row(row)?;
+            if air.out.len() >= WRITTEN_AT {
+                rt.stdout().write_all(air.out.as_slice())?;
+                air.out.clear();
+            }
+            Ok(())
+        },
+    )?;
     rt.stdout().write_all(air.out.as_slice())?;
     Ok(())
 }

@@ -1,9 +1,8 @@
 -- The bytes of a line, one by one. Assumes nothing.
-use Rattle.std.proofs.Common.{◌≡◌, ℕ, zero, suc, ◌+◌, ◌-◌, ◌<◌, ◌&&◌, eqb, ltb, List, ◌++◌, map, length, get_or, sym, refl, ap, ◌∙◌, subst, ⊎_elim, arith}
-use borrow.Rule.Slice.PartMut.{put_mid}
+use Rattle.std.proofs.Common.{◌≡◌, ℕ, zero, suc, ◌+◌, ◌-◌, ◌<◌, ◌≤◌, ◌&&◌, eqb, ltb, List, ◌++◌, map, length, get_or, set, sym, refl, ap, ◌∙◌, subst, ⊎_elim, arith, length-set, get_or-set_other, get_or-set_same}
 use denote.Param.Members.{Mut, Called}
 use Rattle.std.specs.Array.{IsMapOf}
-use Rattle.std.proofs.lemmas.List.{length-append, length-map, get_or_append_left, get_or-append-add, get_or-map, ext_get_or, get_or_past, append-nil, drop_all}
+use Rattle.std.proofs.lemmas.List.{length-append, length-map, get_or_append_left, get_or-append-add, get_or-map, ext_get_or, get_or_past}
 use Rattle.std.proofs.lemmas.Bool.{and_from, lt-ltb, eq-eqb, cond-true, cases_lt}
 use Rattle.coding.specs.Hamming.{encode_number}
 use Rattle.coding.specs.Parity.{encode_letter}
@@ -59,11 +58,29 @@ mapped g h f xs ys n is long gives =
     ext_get_or 0 ys (map f xs) (is.long ∙ sym (length-map xs f ∙ long))
     (λ k lt. let at = is.at k 0 0 (omega (arith, is.long)) in gives at.0 at.1 _ _ at.2 ∙ sym (get_or-map f xs k 0 0 (omega (arith, is.long, long))))
 
--- the numbers' bytes and then the letters' are the line, over whatever stood there
-pub written : (m : Line) (numbers letters over : List ℕ) →
-    numbers ≡ map encode_number (header_numbers m) → letters ≡ map encode_letter m.letters → length over ≡ 40 → put_mid 6 40 (numbers ++ over) letters ≡ encode_line m
+-- the first n bytes are the line's
+pub record Encoded (m : Line) (bytes : List ℕ) (n : ℕ) : Type 0 where
+  pub long : length bytes ≡ 46
+  pub same : (k : ℕ) → k < n → get_or bytes k 0 ≡ get_or (encode_line m) k 0
+
+-- the numbers' bytes are, over whatever stood there
+pub encoded_header : (m : Line) (numbers over : List ℕ) → numbers ≡ map encode_number (header_numbers m) → length over ≡ 40 → Encoded m (numbers ++ over) 6
 unfolding encode_line
-written m numbers letters over en el long =
-    ap (λ x. put_mid 6 40 (x ++ over) letters) en
-    ∙ ap (λ x. map encode_number (header_numbers m) ++ (letters ++ x)) (drop_all 40 over (omega (arith, long)))
-    ∙ ap (λ x. map encode_number (header_numbers m) ++ x) (append-nil letters ∙ el)
+encoded_header m numbers over e long = record {
+  long = length-append numbers over ∙ omega (arith, ap length e, long);
+  same = λ k lt.
+      let here : k < length numbers = omega (arith, ap length e, lt) in
+      get_or_append_left numbers over 0 k here ∙ ap (λ x. get_or x k 0) e ∙ sym (get_or_append_left (map encode_number (header_numbers m)) (map encode_letter m.letters) 0 k lt);
+}
+
+pub encoded_more : (m : Line) (bytes : List ℕ) (c b : ℕ) → Encoded m bytes (6 + c) → c < 40 → length m.letters ≡ 40 → b ≡ encode_letter (get_or m.letters c 0) → Encoded m (set bytes (6 + c) b) (6 + (c + 1))
+encoded_more m bytes c b w h long is = record {
+  long = length-set bytes (6 + c) b ∙ w.long;
+  same = λ k lt.
+      ⊎_elim (λ low. get_or-set_other bytes (6 + c) k b 0 (omega arith) ∙ w.same k low)
+      (λ here. let e : 6 + c ≡ k = omega arith in
+      subst (λ j. get_or (set bytes (6 + c) b) j 0 ≡ get_or (encode_line m) j 0) e (get_or-set_same bytes (6 + c) b 0 (omega (arith, w.long)) ∙ is ∙ sym (letter_at m c (omega arith)))) (cases_lt k (6 + c));
+}
+
+pub encoded_all : (m : Line) (bytes : List ℕ) (n : ℕ) → 46 ≤ n → length m.letters ≡ 40 → Encoded m bytes n → bytes ≡ encode_line m
+encoded_all m bytes n h long w = ext_get_or 0 bytes (encode_line m) (w.long ∙ sym (encode_length m ∙ ap (λ k. 6 + k) long)) (λ k lt. w.same k (omega (arith, w.long)))

@@ -7,7 +7,7 @@ mod keeping;
 mod refusal;
 
 use anyhow::anyhow;
-use command_line::input::each_line;
+use command_line::input::{InputError, each_line};
 use command_line::receive::{Command, Options, OptionsError, read_command};
 use command_line::words::{behind_name, if_utf8, print_usage, refuse};
 use intake::{Intake, TakeError};
@@ -113,33 +113,57 @@ fn take_shown(rt: &HostRuntime, page: u8, intake: &mut Intake) -> anyhow::Result
     let input = BufReader::new(rt.alloc(), rt.stdin())?;
     let mut shown = String::new(rt.alloc());
     show_followed(rt, page, intake.store.as_slice(), &mut shown)?;
-    each_line(rt.alloc(), input, |number, line| {
-        if let Err(e) = intake.take_text(trim_newline(line), number) {
-            say_untaken(rt, number, e)?;
-        }
-        show_followed(rt, page, intake.store.as_slice(), &mut shown)
-    })?;
+    each_line(
+        rt.alloc(),
+        input,
+        |number, line| -> Result<(), InputError> {
+            if let Err(e) = intake.take_text(trim_newline(line), number) {
+                say_untaken(rt, number, e)?;
+            }
+            show_followed(rt, page, intake.store.as_slice(), &mut shown)
+        },
+    )?;
     Ok(())
 }
 
 // Takes the lines many at once.
 fn take_gathered(rt: &HostRuntime, intake: &mut Intake) -> anyhow::Result<()> {
     let input = BufReader::new(rt.alloc(), rt.stdin())?;
-    let count = each_line(rt.alloc(), input, |number, line| -> anyhow::Result<()> {
-        if let Err(e) = intake.gather(trim_newline(line), number) {
-            say_untaken(rt, number, e)?;
-        }
-        if intake.waiting.len() >= MOST_WAITING {
-            flush(rt, number, intake)?;
-        }
-        Ok(())
-    })?;
-    flush(rt, count, intake)
+    let count = each_line(
+        rt.alloc(),
+        input,
+        |number, line| -> Result<(), InputError> {
+            let taken = intake.gather(trim_newline(line), number);
+            // most lines end here: whatever follows may fail, and room for why would be laid out for each
+            if taken.is_ok() && intake.waiting.len() < MOST_WAITING {
+                return Ok(());
+            }
+            end_line(rt, number, taken, intake)
+        },
+    )?;
+    flush(rt, count, intake)?;
+    Ok(())
+}
+
+// Says why a line is turned away, if it is, and takes the lines that wait, if there are many.
+fn end_line(
+    rt: &HostRuntime,
+    number: u64,
+    taken: Result<(), TakeError>,
+    intake: &mut Intake,
+) -> Result<(), InputError> {
+    if let Err(e) = taken {
+        say_untaken(rt, number, e)?;
+    }
+    if intake.waiting.len() >= MOST_WAITING {
+        flush(rt, number, intake)?;
+    }
+    Ok(())
 }
 
 // Takes the lines that wait, up to the one with this number. They are whole lines, and the store was checked, so none is turned away here; if they were, it
 // would be said as of any line.
-fn flush(rt: &HostRuntime, number: u64, intake: &mut Intake) -> anyhow::Result<()> {
+fn flush(rt: &HostRuntime, number: u64, intake: &mut Intake) -> Result<(), InputError> {
     if let Err(refusal) = intake.take_waiting() {
         say_untaken(rt, number, refusal.into())?;
     }
@@ -147,7 +171,7 @@ fn flush(rt: &HostRuntime, number: u64, intake: &mut Intake) -> anyhow::Result<(
 }
 
 // Says that a line of the input is turned away; that there is no memory is an error.
-fn say_untaken(rt: &HostRuntime, number: u64, e: TakeError) -> anyhow::Result<()> {
+fn say_untaken(rt: &HostRuntime, number: u64, e: TakeError) -> Result<(), InputError> {
     match e {
         TakeError::TurnedAway(refusal) => eprintln!(rt; "line {number}: {refusal}")?,
         TakeError::Memory(none) => return Err(none.into()),
@@ -161,7 +185,7 @@ fn show_followed(
     page: u8,
     store: &[u8],
     shown: &mut String,
-) -> anyhow::Result<()> {
+) -> Result<(), InputError> {
     if redraw_page(rt.alloc(), store, page, shown)? {
         let text = shown.as_str();
         print!(rt; "{CLEAR_SCREEN}{text}")?;

@@ -42,7 +42,7 @@ run_then : (s s₁ s₂ : List ℕ) (ls ks : List (List ℕ)) (rs qs : List Done
 run_then _ _ s₂ _ ks _ qs (end s) v = v
 run_then _ _ s₂ _ ks _ qs (step s l t s₁ r ls rs a w) v = step s l t s₂ r (ls ++ ks) (rs ++ qs) a (run_then t s₁ s₂ ls ks rs qs w v)
 
-continue : (s s₁ : List ℕ) (ls : List (List ℕ)) (rs : List Done) → Run s ls rs s₁ → Continue ls s rs s₁
+pub continue : (s s₁ : List ℕ) (ls : List (List ℕ)) (rs : List Done) → Run s ls rs s₁ → Continue ls s rs s₁
 continue s s₁ ls rs v s₀ before answers ok w = run_promises s₀ s₁ (before ++ ls) (answers ++ rs) ok (run_then s₀ s s₁ before ls answers rs w v)
 
 -- lines that are not turned away, from what their loop leaves
